@@ -1,0 +1,18 @@
+use borrow.Author.Needs.{needs}
+use Rattle.array.proofs.answers.refusing.Statement.{statement}
+use Rattle.array.proofs.answers.refusing.Tie as tie
+use Rattle.array.proofs.answers.refusing.Reads as reads
+use Rattle.array.proofs.answers.refusing.Lts as lts
+use Rattle.array.proofs.answers.refused.Reads as refused-reads
+
+refused-requires : tie.Need-refused-requires
+refused-requires c κs = search needs
+
+returns : tie.Need-returns
+returns c = rw (c .before .if1 .taken) (c .refused .ensures)
+
+returns-2 : tie.Need-returns-2
+returns-2 c = search needs
+
+pub refusing-spec : {M : Type 1} → statement M
+refusing-spec = tie.close (tie.spec refused-requires returns returns-2)

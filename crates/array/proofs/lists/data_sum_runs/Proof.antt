@@ -1,0 +1,19 @@
+use borrow.Author.Needs.{needs}
+use Rattle.array.proofs.lists.data_sum_runs.Statement.{statement}
+use Rattle.array.proofs.lists.data_sum_runs.Tie as tie
+use Rattle.array.proofs.lists.data_sum_runs.Reads as reads
+use Rattle.array.proofs.lists.data_sum_runs.Lts as lts
+use Rattle.array.proofs.lists.one_less.Reads as one-less-reads
+use Rattle.array.proofs.lists.whole_runs.Reads as whole-runs-reads
+
+one-less-requires : tie.Need-one-less-requires
+one-less-requires c κs = search needs
+
+whole-runs-requires : tie.Need-whole-runs-requires
+whole-runs-requires c κs = search needs
+
+returns : tie.Need-returns
+returns c = rw (c .before .one-less .ensures) at (c .whole-runs .ensures)
+
+pub data-sum-runs-spec : {M : Type 1} → statement M
+data-sum-runs-spec = tie.close (tie.spec one-less-requires whole-runs-requires returns)

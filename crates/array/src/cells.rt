@@ -1,0 +1,48 @@
+// The cells of a board, and the partner of each.
+use crate::links::link;
+ghost use mathlib.Core.Path.{_≡_};
+ghost use mathlib.Core.Bool.{_&&_};
+ghost use Prim.Native.Nat.{_<_, _≤_};
+ghost use lib.Dec.{ltb, eqb, leb};
+ghost use Rattle.array.specs.Cells.{isSide, isCell, groups as groupsOf, cells as cellsOf, linked};
+
+pub fn is_side(side: usize) -> bool
+    ensures { λ r. ⌜ r ≡ isSide side ⌝ }
+{
+    1 <= side && side <= 8
+}
+
+// A board has n cells; no side above 65,535 has a number of cells that fits.
+pub fn is_cells(side: usize, n: usize) -> bool
+    ensures { λ r. ⌜ r ≡ eqb n (cellsOf side) ⌝ }
+{
+    if side > 65535 {
+        return false;
+    }
+    let groups = side * side;
+    n == groups * groups
+}
+
+pub fn is_cell(side: usize, cell: usize) -> bool
+    ensures { λ r. ⌜ r ≡ isCell side cell ⌝ }
+{
+    if is_side(side) {
+        let groups = side * side;
+        return cell < groups * groups;
+    }
+    false
+}
+
+// The cell at the other end of the light; what is no cell of a board stays. Side 8 goes by the board's link list.
+pub fn partner(side: usize, cell: usize) -> usize
+    ensures { λ r. ⌜ r ≡ linked side cell ⌝ }
+{
+    if !is_cell(side, cell) {
+        return cell;
+    }
+    if side == 8 {
+        return link(cell);
+    }
+    let groups = side * side;
+    cell % groups * groups + cell / groups
+}

@@ -1,0 +1,1 @@
+// Laws of lists, sums and numbers that know nothing of the board: definitions and lemmas only, for the crates above.
