@@ -1,5 +1,5 @@
 // The cells of a board, and the partner of each.
-use crate::links::link;
+use links::link;
 ghost use mathlib.Core.Path.{_≡_};
 ghost use mathlib.Core.Bool.{_&&_};
 ghost use Prim.Native.Nat.{_<_, _≤_};

@@ -1,7 +1,6 @@
 // The board: its cells and links, the moves it can make, the move list of every operation, and how an entry answers.
 pub mod answers;
 pub mod cells;
-pub mod links;
 pub mod lists;
 pub mod logs;
 pub mod moves;

@@ -1,4 +1,4 @@
 pub mod Bools
 pub mod Filling
 pub mod Numbers
-pub mod Table
+pub mod Tables

@@ -3,7 +3,7 @@ use mathlib.Core.Path.{_≡_, sym, _∙_}
 use mathlib.Core.Bool.{true}
 use native.Mathlib.Omega.{arith}
 use borrow.Author.Needs.{needs}
-use borrow.Author.Tests.{not-true, not-false}
+use borrow.Author.Tests.{not-true, not-false, lt-ltb}
 use Rattle.array.specs.Cells.{isCell, groups, cells, partner}
 use Rattle.array.proofs.Board.{cell-in, cell-side, side-least, side-most, groups-pos, groups-few, cells-few, partner-in}
 use Rattle.array.proofs.cells.partner.Statement.{statement}
@@ -11,7 +11,6 @@ use Rattle.array.proofs.cells.partner.Tie as tie
 use Rattle.array.proofs.cells.partner.Reads as reads
 use Rattle.array.proofs.cells.partner.Lts as lts
 use Rattle.array.proofs.cells.is_cell.Reads as is-cell-reads
-use Rattle.array.proofs.links.link.Reads as link-reads
 
 -- what is known where the cell is on the board
 on-board : (c : tie.Else1) → isCell (c .before .before .args .side) (c .before .before .args .cell) ≡ true
@@ -36,10 +35,13 @@ returns : tie.Need-returns
 returns c = rw (sym (c .before .is-cell .ensures) ∙ not-true _ (c .if1 .taken))
 
 link-requires : tie.Need-link-requires
-link-requires c κs = rw (c .if2 .taken) at (cell-in (c .before .before .before .args .side) _ (on-board (c .before)))
+link-requires c κs = search needs
 
 returns-2 : tie.Need-returns-2
-returns-2 c = rw (on-board (c .before .before), c .before .if2 .taken) (c .link .ensures)
+returns-2 c =
+    let i = c .before .before .before .before .args .cell in
+    let l : i < 4096 = rw (c .before .if2 .taken) at (cell-in (c .before .before .before .before .args .side) i (on-board (c .before .before))) in
+    rw (on-board (c .before .before), c .before .if2 .taken) (rw (lt-ltb i 4096 l) at (c .link .ensures))
 
 mul-groups : tie.Need-mul-groups
 mul-groups c = omega (arith, small (c .before))

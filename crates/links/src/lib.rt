@@ -1,12 +1,14 @@
-// The link list of the side 8 board: entry I is the cell at the other end of the light from cell I.
+// The link list of the side 8 board, a table of 4,096 entries: where the light from each cell leads.
 ghost use mathlib.Core.Path.{_≡_};
-ghost use Prim.Native.Nat.{_<_};
-ghost use Rattle.array.specs.Cells.{partner};
+ghost use Rattle.links.specs.Links.{linkOf};
 
-pub(crate) fn link(cell: usize) -> usize
-    requires { ⌜ cell < 4096 ⌝ }
-    ensures { λ r. ⌜ r ≡ partner 8 cell ⌝ }
+// The cell at the other end of the light from a cell of side 8; any other number is its own.
+pub fn link(cell: usize) -> usize
+    ensures { λ r. ⌜ r ≡ linkOf cell ⌝ }
 {
+    if 4096 <= cell {
+        return cell;
+    }
     wide(LINKS[cell])
 }
 
