@@ -1,3 +1,4 @@
 pub mod Board
 pub mod Counts
+pub mod Signed
 pub mod Verdicts
