@@ -5,7 +5,6 @@ use crate::moves::Way;
 use crate::moves::along;
 use crate::moves::opposite;
 use crate::moves::swapping;
-
 ghost use mathlib.Core.Path.{_≡_};
 ghost use Prim.Native.Nat.{_≤_};
 ghost use Rattle.array.specs.Shifts.{distanceOf, within, modulo as moduloOf, forthMoves, backMoves, forthWay, swapsOf, shiftList, shiftRuns};
@@ -56,11 +55,7 @@ fn modulo(side: usize, k: Distance) -> usize
     ensures { λ r. ⌜ r ≡ moduloOf side k ⌝ }
     ensures { λ r. ⌜ r ≤ side ⌝ }
 {
-    if 0 < k.back {
-        side - k.back
-    } else {
-        k.forth
-    }
+    if 0 < k.back { side - k.back } else { k.forth }
 }
 
 fn forth_moves(edge: Edge, side: usize, k: Distance) -> usize

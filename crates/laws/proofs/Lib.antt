@@ -1,4 +1,5 @@
 pub mod Bools
 pub mod Filling
 pub mod Numbers
+pub mod Stores
 pub mod Tables
