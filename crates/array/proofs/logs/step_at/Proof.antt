@@ -1,3 +1,4 @@
+-- `array::logs::step_at` meets its contract: run after run is passed until the move is in one.
 use Prim.Native.Nat.{_+_, _-_, _≤_}
 use mathlib.Core.Path.{_≡_, refl, sym, ap, _∙_}
 use native.Mathlib.Numerals.{add-one}
@@ -11,8 +12,6 @@ use Rattle.array.specs.Moves.{moves, stepIn}
 use Rattle.array.proofs.Steps.{step-here, step-next, step-none}
 use Rattle.array.proofs.logs.step_at.Statement.{statement}
 use Rattle.array.proofs.logs.step_at.Tie as tie
-use Rattle.array.proofs.logs.step_at.Reads as reads
-use Rattle.array.proofs.logs.step_at.Lts as lts
 
 abbrev none : Run
 none = record { step = Swap; times = 0 }
