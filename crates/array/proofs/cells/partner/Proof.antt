@@ -5,7 +5,7 @@ use mathlib.Core.Bool.{true}
 use native.Mathlib.Omega.{arith}
 use borrow.Author.Needs.{needs}
 use borrow.Author.Tests.{not-true, not-false, lt-ltb}
-use Rattle.array.specs.Cells.{isCell, groups, cells, partner}
+use Rattle.array.specs.Cells.{isCell, cells, partner}
 use Rattle.array.proofs.Board.{OnBoard, cell-known, partner-in}
 use Rattle.array.proofs.cells.partner.Statement.{statement}
 use Rattle.array.proofs.cells.partner.Tie as tie

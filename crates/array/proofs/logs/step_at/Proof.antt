@@ -1,10 +1,8 @@
 -- `array::logs::step_at` meets its contract: run after run is passed until the move is in one.
-use Prim.Native.Nat.{_+_, _-_, _≤_}
-use mathlib.Core.Path.{_≡_, refl, sym, ap, _∙_}
+use Prim.Native.Nat.{_-_, _≤_}
+use mathlib.Core.Path.{_≡_, refl, sym, _∙_}
 use native.Mathlib.Numerals.{add-one}
-use native.Mathlib.Omega.{arith}
-use lib.ListN.{drop, getD, length}
-use lib.Seq.{drop-length}
+use lib.ListN.{drop}
 use borrow.Author.Needs.{needs}
 use Rattle.array.specs.declared.moves.Move.the-variants.{Swap}
 use Rattle.array.specs.declared.moves.Run.{Run}
