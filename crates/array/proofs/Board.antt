@@ -14,24 +14,27 @@ use Rattle.array.specs.declared.moves.Way.{Way}
 use Rattle.array.specs.declared.moves.Way.the-variants.{Right, Left, Up, Down}
 use Rattle.array.specs.Cells.{isSide, groups, cells, cell, group, place, row, column, partner, isCell, ahead, onward, neighbour}
 
-pub side-least : (s : ℕ) → isSide s ≡ true → 1 ≤ s
-side-least s h = leb-true 1 s (both-left (leb 1 s) (leb s 8) h)
+-- what a side that is built, and a cell of a board, are known by
+pub record Side (s : ℕ) : Type 0 where
+  pub least : 1 ≤ s
+  pub most : s ≤ 8
+  pub groups-pos : 0 < groups s
+  pub groups-few : groups s ≤ 64
+  pub cells-few : cells s ≤ 4096
 
-pub side-most : (s : ℕ) → isSide s ≡ true → s ≤ 8
-side-most s h = leb-true s 8 (both-right (leb 1 s) (leb s 8) h)
+pub side-known : (s : ℕ) → isSide s ≡ true → Side s
+side-known s h =
+    let least : 1 ≤ s = leb-true 1 s (both-left (leb 1 s) (leb s 8) h) in
+    let most : s ≤ 8 = leb-true s 8 (both-right (leb 1 s) (leb s 8) h) in
+    record { least = least; most = most; groups-pos = mul-pos least least; groups-few = square-grows most; cells-few = fourth-grows most }
 
--- a cell of a board has a side and is among its cells
-pub cell-side : (s i : ℕ) → isCell s i ≡ true → isSide s ≡ true
-cell-side s i h = both-left (isSide s) (ltb i (cells s)) h
+pub record OnBoard (s i : ℕ) : Type 0 where
+  pub side : Side s
+  pub inside : i < cells s
 
-pub cell-in : (s i : ℕ) → isCell s i ≡ true → i < cells s
-cell-in s i h = ltb-true i (cells s) (both-right (isSide s) (ltb i (cells s)) h)
-
-pub groups-few : (s : ℕ) → s ≤ 8 → groups s ≤ 64
-groups-few s h = square-grows h
-
-pub cells-few : (s : ℕ) → s ≤ 8 → cells s ≤ 4096
-cells-few s h = fourth-grows h
+pub cell-known : (s i : ℕ) → isCell s i ≡ true → OnBoard s i
+cell-known s i h =
+    record { side = side-known s (both-left (isSide s) (ltb i (cells s)) h); inside = ltb-true i (cells s) (both-right (isSide s) (ltb i (cells s)) h) }
 
 -- a cell is its group and its place, and back
 pub cell-of : (s i : ℕ) → cell s (group s i) (place s i) ≡ i

@@ -1,3 +1,5 @@
 pub mod Board
 pub mod Counts
+pub mod Signed
+pub mod Steps
 pub mod Verdicts

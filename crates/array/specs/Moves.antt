@@ -1,7 +1,7 @@
 -- The moves, their codes in a log, and runs of moves.
-use Prim.Native.Nat.{ℕ, _+_}
+use Prim.Native.Nat.{ℕ, zero, suc, _+_}
 use mathlib.Core.List.{List, [], _∷_, _++_, map}
-use mathlib.Core.Bool.{cond}
+use mathlib.Core.Bool.{Bool, true, false, cond}
 use lib.Dec.{ltb}
 use lib.ListN.{replicate, getD}
 use Rattle.array.specs.declared.moves.Way.{Way}
@@ -9,6 +9,8 @@ use Rattle.array.specs.declared.moves.Way.the-variants.{Right, Left, Up,
 use Rattle.array.specs.declared.moves.Move.{Move}
 use Rattle.array.specs.declared.moves.Move.the-variants.{Swap, Electronic}
 use Rattle.array.specs.declared.moves.Run.{Run}
+use Rattle.array.specs.declared.logs.Found.{Found}
+use Rattle.array.specs.declared.logs.Found.the-variants.{Step, Past}
 use Rattle.array.specs.declared.moves.Logged.{Logged}
 use Rattle.array.specs.declared.moves.Logged.the-variants.{Line, NoMove}
 
@@ -72,6 +74,12 @@ moves (r ∷ rs) = replicate (r .times) (r .step) ++ moves rs
 abbrev pub codes : List Run → List ℕ
 codes rs = map codeOf (moves rs)
 
+-- move k of a list, or that the list is shorter
+abbrev pub stepIn : List Move → ℕ → Found
+stepIn [] k = Past
+stepIn (m ∷ ms) zero = Step m
+stepIn (m ∷ ms) (suc k) = stepIn ms k
+
 -- how many of n moves of a kind are electronic, and how many swaps
 abbrev pub electronicIn : Move → ℕ → ℕ
 electronicIn Swap n = 0
@@ -89,3 +97,7 @@ electronic (r ∷ rs) = electronicIn (r .step) (r .times) + electronic rs
 abbrev pub swaps : List Run → ℕ
 swaps [] = 0
 swaps (r ∷ rs) = swapsIn (r .step) (r .times) + swaps rs
+
+abbrev pub isStep : Found → Bool
+isStep (Step m) = true
+isStep Past = false

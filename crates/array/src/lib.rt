@@ -4,3 +4,4 @@ pub mod cells;
 pub mod lists;
 pub mod logs;
 pub mod moves;
+pub mod shifts;

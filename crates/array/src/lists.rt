@@ -7,30 +7,13 @@ use crate::moves::RIGHT;
 use crate::moves::Run;
 use crate::moves::SWAP;
 use crate::moves::UP;
-use crate::moves::Way;
-use crate::moves::along;
-use crate::moves::opposite;
-use crate::moves::swapping;
 use crate::moves::whole;
 ghost use mathlib.Core.Path.{_≡_};
 ghost use mathlib.Core.List.{map};
-ghost use Prim.Native.Nat.{_+_, _-_, _<_, _≤_};
+ghost use Prim.Native.Nat.{_-_, _<_, _≤_};
 ghost use Rattle.array.specs.Moves.{whole as wholeOf};
-ghost use Rattle.array.specs.Lists.{noRuns, broadcastRuns, broadcastList, dataSumRuns, prefixSumRuns, concentrateRuns, distributeRuns, shiftRuns, shiftList, forthBy, backBy, within as withinOf, modulo as moduloOf, forthMoves, backMoves, forthWay, swapsOf};
-
-// What a shift changes: the column or the row of a cell's place, or of its group.
-pub enum Axis {
-    MeshRow,
-    MeshColumn,
-    GroupRow,
-    GroupColumn,
-}
-
-// What becomes of a word that a shift takes over the edge.
-pub enum Edge {
-    ZeroFill,
-    Circular,
-}
+ghost use Rattle.array.specs.Cells.{groups as groupsOf};
+ghost use Rattle.array.specs.Lists.{noRuns, spreadRuns, broadcastRuns, dataSumRuns, prefixSumRuns, concentrateRuns, distributeRuns};
 
 fn one_less(side: usize) -> usize
     ensures { λ r. ⌜ r ≡ side - 1 ⌝ }
@@ -97,4 +80,47 @@ pub fn distribute_runs(side: usize) -> [Run; 9]
         one_less(side),
         [SWAP, DOWN, RIGHT, LEFT, SWAP, UP, DOWN, RIGHT, LEFT],
     )
+}
+
+// From place p to its whole group.
+fn spread_runs(side: usize, p: usize) -> [Run; 4]
+    requires { ⌜ (1 ≤ side) × (p < groupsOf side) ⌝ }
+    ensures { λ r. ⌜ r ≡ spreadRuns side p ⌝ }
+{
+    let last = side - 1;
+    let row = p / side;
+    let column = p % side;
+    let left = Run {
+        step: LEFT,
+        times: column,
+    };
+    let right = Run {
+        step: RIGHT,
+        times: last - column,
+    };
+    let up = Run {
+        step: UP,
+        times: row,
+    };
+    let down = Run {
+        step: DOWN,
+        times: last - row,
+    };
+    [left, right, up, down]
+}
+
+pub fn broadcast_runs(side: usize, cell: usize) -> [Run; 9]
+    ensures { λ r. ⌜ r ≡ broadcastRuns side cell ⌝ }
+{
+    if !is_cell(side, cell) {
+        return no_runs();
+    }
+    let groups = side * side;
+    let a = spread_runs(side, cell % groups);
+    let b = spread_runs(side, cell / groups);
+    let swap = Run {
+        step: SWAP,
+        times: 1,
+    };
+    [a[0], a[1], a[2], a[3], swap, b[0], b[1], b[2], b[3]]
 }

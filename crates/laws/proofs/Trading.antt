@@ -10,7 +10,7 @@ use lib.ListN.{length, getD, set, length-set}
 use lib.Dec.{eqb, ltb}
 use Rattle.laws.specs.Tables.{entries}
 use Rattle.laws.proofs.Deciding.{same?, ltb-next}
-use Rattle.laws.proofs.Storing.{getD-stored}
+use Rattle.laws.proofs.Setting.{getD-stored}
 use Rattle.laws.proofs.Tables.{entries-all}
 
 -- a partner for each of n entries

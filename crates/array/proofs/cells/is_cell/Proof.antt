@@ -1,6 +1,6 @@
 use mathlib.Core.Path.{sym, _∙_}
 use native.Mathlib.Omega.{arith}
-use Rattle.array.proofs.Board.{side-most, groups-few, cells-few}
+use Rattle.array.proofs.Board.{side-known}
 use borrow.Author.Needs.{needs}
 use Rattle.array.proofs.cells.is_cell.Statement.{statement}
 use Rattle.array.proofs.cells.is_cell.Tie as tie
@@ -12,10 +12,10 @@ is-side-requires : tie.Need-is-side-requires
 is-side-requires c κs = search needs
 
 mul-groups : tie.Need-mul-groups
-mul-groups c = omega (arith, groups-few (c .before .before .args .side) (side-most (c .before .before .args .side) (sym (c .before .is-side .ensures) ∙ c .if1 .taken)))
+mul-groups c = omega (arith, side-known (c .before .before .args .side) (sym (c .before .is-side .ensures) ∙ c .if1 .taken))
 
 mul-result : tie.Need-mul-result
-mul-result c = omega (arith, cells-few (c .before .before .args .side) (side-most (c .before .before .args .side) (sym (c .before .is-side .ensures) ∙ c .if1 .taken)))
+mul-result c = omega (arith, side-known (c .before .before .args .side) (sym (c .before .is-side .ensures) ∙ c .if1 .taken))
 
 returns : tie.Need-returns
 returns c = rw (sym (c .before .is-side .ensures) ∙ c .if1 .taken)

@@ -1,32 +1,26 @@
-use Prim.Native.Nat.{_*_, _<_, _≤_}
+use Prim.Native.Nat.{_<_}
 use mathlib.Core.Path.{_≡_, sym, _∙_}
 use mathlib.Core.Bool.{true}
 use native.Mathlib.Omega.{arith}
 use borrow.Author.Needs.{needs}
 use borrow.Author.Tests.{not-true, not-false, lt-ltb}
 use Rattle.array.specs.Cells.{isCell, groups, cells, partner}
-use Rattle.array.proofs.Board.{cell-in, cell-side, side-least, side-most, groups-pos, groups-few, cells-few, partner-in}
+use Rattle.array.proofs.Board.{OnBoard, cell-known, partner-in}
 use Rattle.array.proofs.cells.partner.Statement.{statement}
 use Rattle.array.proofs.cells.partner.Tie as tie
 use Rattle.array.proofs.cells.partner.Reads as reads
 use Rattle.array.proofs.cells.partner.Lts as lts
 use Rattle.array.proofs.cells.is_cell.Reads as is-cell-reads
 
--- what is known where the cell is on the board
-on-board : (c : tie.Else1) → isCell (c .before .before .args .side) (c .before .before .args .cell) ≡ true
-on-board c = sym (c .before .is-cell .ensures) ∙ not-false _ (c .if1 .left)
+-- what is known past the first test
+board : (c : tie.Else1) → isCell (c .before .before .args .side) (c .before .before .args .cell) ≡ true
+board c = sym (c .before .is-cell .ensures) ∙ not-false _ (c .if1 .left)
 
-least : (c : tie.Else1) → 0 < c .before .before .args .side
-least c = side-least _ (cell-side (c .before .before .args .side) (c .before .before .args .cell) (on-board c))
+known : (c : tie.Else1) → OnBoard (c .before .before .args .side) (c .before .before .args .cell)
+known c = cell-known (c .before .before .args .side) (c .before .before .args .cell) (board c)
 
-most : (c : tie.Else1) → c .before .before .args .side ≤ 8
-most c = side-most (c .before .before .args .side) (cell-side (c .before .before .args .side) (c .before .before .args .cell) (on-board c))
-
-small : (c : tie.Else1) → let s = c .before .before .args .side in let i = c .before .before .args .cell in (partner s i < cells s) × (cells s ≤ 4096) × (groups s ≤ 64)
-small c =
-    let s = c .before .before .args .side in
-    let i = c .before .before .args .cell in
-    (partner-in (least c) i (cell-in s i (on-board c)), cells-few s (most c), groups-few s (most c))
+small : (c : tie.Else1) → partner (c .before .before .args .side) (c .before .before .args .cell) < cells (c .before .before .args .side)
+small c = partner-in (known c .side .least) (c .before .before .args .cell) (known c .inside)
 
 is-cell-requires : tie.Need-is-cell-requires
 is-cell-requires c κs = search needs
@@ -40,26 +34,26 @@ link-requires c κs = search needs
 returns-2 : tie.Need-returns-2
 returns-2 c =
     let i = c .before .before .before .before .args .cell in
-    let l : i < 4096 = rw (c .before .if2 .taken) at (cell-in (c .before .before .before .before .args .side) i (on-board (c .before .before))) in
-    rw (on-board (c .before .before), c .before .if2 .taken) (rw (lt-ltb i 4096 l) at (c .link .ensures))
+    let l : i < 4096 = rw (c .before .if2 .taken) at (known (c .before .before) .inside) in
+    rw (board (c .before .before), c .before .if2 .taken) (rw (lt-ltb i 4096 l) at (c .link .ensures))
 
 mul-groups : tie.Need-mul-groups
-mul-groups c = omega (arith, small (c .before))
+mul-groups c = omega (arith, known (c .before) .side)
 
 rem-result : tie.Need-rem-result
-rem-result c = groups-pos (least (c .before))
+rem-result c = known (c .before) .side .groups-pos
 
 mul-result : tie.Need-mul-result
-mul-result c = omega (arith, small (c .before))
+mul-result c = omega (arith, small (c .before), known (c .before) .side)
 
 div-result : tie.Need-div-result
-div-result c = groups-pos (least (c .before))
+div-result c = known (c .before) .side .groups-pos
 
 add-result : tie.Need-add-result
-add-result c = omega (arith, small (c .before))
+add-result c = omega (arith, small (c .before), known (c .before) .side)
 
 returns-3 : tie.Need-returns-3
-returns-3 c = rw (on-board (c .before))
+returns-3 c = rw (board (c .before))
 
 pub partner-spec : {M : Type 1} → statement M
 partner-spec =

@@ -1,0 +1,14 @@
+use borrow.Author.Tests.{lt-ltb, le-ltb}
+use Rattle.array.proofs.shifts.is_within.Statement.{statement}
+use Rattle.array.proofs.shifts.is_within.Tie as tie
+use Rattle.array.proofs.shifts.is_within.Reads as reads
+use Rattle.array.proofs.shifts.is_within.Lts as lts
+
+returns : tie.Need-returns
+returns c = rw (lt-ltb _ _ (c .before .if1 .taken))
+
+returns-2 : tie.Need-returns-2
+returns-2 c = rw (le-ltb _ _ (c .if1 .left))
+
+pub is-within-spec : {M : Type 1} → statement M
+is-within-spec = tie.close (tie.spec returns returns-2)

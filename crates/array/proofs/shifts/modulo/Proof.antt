@@ -1,0 +1,18 @@
+use borrow.Author.Tests.{lt-ltb, le-ltb}
+use borrow.Author.Needs.{needs}
+use Rattle.array.proofs.shifts.modulo.Statement.{statement}
+use Rattle.array.proofs.shifts.modulo.Tie as tie
+use Rattle.array.proofs.shifts.modulo.Reads as reads
+use Rattle.array.proofs.shifts.modulo.Lts as lts
+
+sub-result : tie.Need-sub-result
+sub-result c = search needs
+
+returns : tie.Need-returns
+returns c = (rw (lt-ltb 0 _ (c .before .if1 .taken)), search needs)
+
+returns-2 : tie.Need-returns-2
+returns-2 c = (rw (le-ltb 0 _ (c .if1 .left)), search needs)
+
+pub modulo-spec : {M : Type 1} → statement M
+modulo-spec = tie.close (tie.spec sub-result returns returns-2)
