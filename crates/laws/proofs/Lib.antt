@@ -4,5 +4,7 @@ pub mod Filling
 pub mod Numbers
 pub mod Setting
 pub mod Stores
+pub mod Sums
 pub mod Tables
+pub mod Totals
 pub mod Trading
