@@ -2,4 +2,5 @@ pub mod Bools
 pub mod Filling
 pub mod Numbers
 pub mod Stores
+pub mod Sums
 pub mod Tables
