@@ -1,3 +1,4 @@
+pub mod Adding
 pub mod Coordinates
 pub mod Lines
 pub mod Views
