@@ -1,5 +1,6 @@
 pub mod Adding
 pub mod Coordinates
 pub mod Lines
-pub mod Views
+pub mod Shifting
 pub mod Spreading
+pub mod Views

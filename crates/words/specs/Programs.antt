@@ -3,16 +3,16 @@ use Prim.Native.Nat.{ℕ, zero, suc, _+_, _-_, _%_, _^_}
 use mathlib.Core.Bool.{Bool, true, false, cond}
 use mathlib.Core.Option.{Option, none, some}
 use mathlib.Core.List.{List, [], _∷_, _++_}
-use lib.IntN.{ℤ}
 use lib.Dec.{ltb, eqb}
 use Rattle.array.specs.declared.moves.Way.{Way}
 use Rattle.array.specs.declared.moves.Way.the-variants.{Right, Left, Up, Down}
-use Rattle.array.specs.declared.lists.Axis.{Axis}
-use Rattle.array.specs.declared.lists.Edge.{Edge}
-use Rattle.array.specs.declared.lists.Edge.the-variants.{ZeroFill, Circular}
+use Rattle.array.specs.declared.shifts.Axis.{Axis}
+use Rattle.array.specs.declared.shifts.Edge.{Edge}
+use Rattle.array.specs.declared.shifts.Edge.the-variants.{ZeroFill, Circular}
 use Rattle.array.specs.Cells.{group, place, row, column}
 use Rattle.array.specs.Moves.{along, swapping, opposite}
-use Rattle.array.specs.Lists.{modulo, forthMoves, backMoves, forthWay, swapsOf}
+use Rattle.array.specs.declared.shifts.Distance.{Distance}
+use Rattle.array.specs.Shifts.{forthMoves, backMoves, forthWay, swapsOf}
 use Rattle.words.specs.Machine.{State, Stage, made}
 
 -- the position of the cell in row a and column b on the line that a way goes along
@@ -158,7 +158,7 @@ filled (some x) = x
 abbrev pub forth : Shifting → Option ℕ → Shifting
 forth o got = record { x = filled got; y = o .y }
 
--- where the word that came back is taken: everywhere with zero fill, and below m, where none came forth, in a circular shift
+-- where the word that came back is taken: everywhere with zero fill; in a circular shift below m, where none came forth in m moves
 abbrev pub takesBack : Edge → ℕ → ℕ → Bool
 takesBack ZeroFill m p = true
 takesBack Circular m p = ltb p m
@@ -169,13 +169,13 @@ back takes o got = record { x = cond takes (filled got) (o .x); y = filled got }
 abbrev pub swapShift : Shifting → ℕ → Shifting
 swapShift o x = loadShift x
 
-abbrev pub shift : ℕ → Axis → Edge → ℤ → List (Stage Shifting)
+abbrev pub shift : ℕ → Axis → Edge → Distance → List (Stage Shifting)
 shift s axis edge k =
     light (swapsOf axis) (λ o. o .x) swapShift ∷
     record { run = along (forthWay axis) (forthMoves edge s k); send = λ o. o .x; rule = λ n c d a b. forth } ∷
     record {
       run = along (opposite (forthWay axis)) (backMoves edge s k);
       send = λ o. o .y;
-      rule = λ n c d a b. back (takesBack edge (modulo s k) (position (forthWay axis) a b))
+      rule = λ n c d a b. back (takesBack edge (forthMoves edge s k) (position (forthWay axis) a b))
     } ∷
     light (swapsOf axis) (λ o. o .x) swapShift ∷ []

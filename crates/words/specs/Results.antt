@@ -8,12 +8,13 @@ use lib.ListN.{getD, replicate}
 use lib.Dec.{ltb}
 use Rattle.laws.specs.Sums.{sumOf}
 use Rattle.laws.specs.Tables.{entries}
-use Rattle.array.specs.declared.lists.Axis.{Axis}
-use Rattle.array.specs.declared.lists.Axis.the-variants.{MeshRow, MeshColumn, GroupRow, GroupColumn}
-use Rattle.array.specs.declared.lists.Edge.{Edge}
-use Rattle.array.specs.declared.lists.Edge.the-variants.{ZeroFill, Circular}
+use Rattle.array.specs.declared.shifts.Axis.{Axis}
+use Rattle.array.specs.declared.shifts.Axis.the-variants.{MeshRow, MeshColumn, GroupRow, GroupColumn}
+use Rattle.array.specs.declared.shifts.Edge.{Edge}
+use Rattle.array.specs.declared.shifts.Edge.the-variants.{ZeroFill, Circular}
 use Rattle.array.specs.Cells.{cells}
-use Rattle.array.specs.Lists.{forthBy, backBy, modulo}
+use Rattle.array.specs.declared.shifts.Distance.{Distance}
+use Rattle.array.specs.Shifts.{distanceOf, modulo}
 use Rattle.words.specs.Machine.{State, load, unload}
 
 -- every word is that of cell i
@@ -29,9 +30,9 @@ abbrev pub prefixSumWords : ℕ → List ℕ → List ℕ
 prefixSumWords s words = entries (λ i. sumOf (suc i) words % (2 ^ 32)) 0 (cells s)
 
 -- the position whose word a shift by k takes to position p: p - k, if it is 0 or more and below s; in a circular shift p - k modulo s
-abbrev pub cameFrom : Edge → ℕ → ℤ → ℕ → Option ℕ
+abbrev pub cameFrom : Edge → ℕ → Distance → ℕ → Option ℕ
 cameFrom ZeroFill s k p =
-    cond (ltb (p + backBy k) (forthBy k)) none (cond (ltb (p + backBy k - forthBy k) s) (some (p + backBy k - forthBy k)) none)
+    cond (ltb (p + k .back) (k .forth)) none (cond (ltb (p + k .back - k .forth) s) (some (p + k .back - k .forth)) none)
 cameFrom Circular s k p = some ((p + (s - modulo s k)) % s)
 
 -- a word of a line, and 0 where none came
@@ -47,4 +48,4 @@ shifted GroupRow came σ c d a b = wordFrom (λ j. σ c j a b) (came d)
 shifted GroupColumn came σ c d a b = wordFrom (λ i. σ i d a b) (came c)
 
 abbrev pub shiftWords : ℕ → Axis → Edge → ℤ → List ℕ → List ℕ
-shiftWords s axis edge k words = unload s (shifted axis (cameFrom edge s k) (load s words))
+shiftWords s axis edge k words = unload s (shifted axis (cameFrom edge s (distanceOf k)) (load s words))
