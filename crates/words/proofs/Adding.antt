@@ -216,20 +216,28 @@ record Reduced (s : ℕ) (σ w : State ℕ) : Type 0 where
 -- whole lines of sums, and of copies
 module _ (s : ℕ) {σ w : State ℕ} (h : Reduced s σ w) where
   sum-right : Reduced s (summed s Right σ) (λ c d a b. sum (suc b) (w c d a))
-  sum-right = record { is = λ c d a b hc hd ha hb.
-      right-all plus s σ c d a b hb ∙ acc-plus _ (w c d a) b (λ i l. h .is c d a i hc hd ha (omega arith)) }
+  sum-right = record {
+    is = λ c d a b hc hd ha hb.
+        right-all plus s σ c d a b hb ∙ acc-plus _ (w c d a) b (λ i l. h .is c d a i hc hd ha (omega arith));
+  }
 
   sum-down : Reduced s (summed s Down σ) (λ c d a b. sum (suc a) (λ i. w c d i b))
-  sum-down = record { is = λ c d a b hc hd ha hb.
-      down-all plus s σ c d a b ha ∙ acc-plus _ (λ i. w c d i b) a (λ i l. h .is c d i b hc hd (omega arith) hb) }
+  sum-down = record {
+    is = λ c d a b hc hd ha hb.
+        down-all plus s σ c d a b ha ∙ acc-plus _ (λ i. w c d i b) a (λ i l. h .is c d i b hc hd (omega arith) hb);
+  }
 
   copy-left : Reduced s (copied s Left σ) (λ c d a b. w c d a (s - 1))
-  copy-left = record { is = λ c d a b hc hd ha hb.
-      left-all copy s σ c d a b hb ∙ acc-copy _ (s - 1 - b) ∙ ap (σ c d a) (omega arith) ∙ h .is c d a (s - 1) hc hd ha (omega arith) }
+  copy-left = record {
+    is = λ c d a b hc hd ha hb.
+        left-all copy s σ c d a b hb ∙ acc-copy _ (s - 1 - b) ∙ ap (σ c d a) (omega arith) ∙ h .is c d a (s - 1) hc hd ha (omega arith);
+  }
 
   copy-up : Reduced s (copied s Up σ) (λ c d a b. w c d (s - 1) b)
-  copy-up = record { is = λ c d a b hc hd ha hb.
-      up-all copy s σ c d a b ha ∙ acc-copy _ (s - 1 - a) ∙ ap (λ i. σ c d i b) (omega arith) ∙ h .is c d (s - 1) b hc hd (omega arith) hb }
+  copy-up = record {
+    is = λ c d a b hc hd ha hb.
+        up-all copy s σ c d a b ha ∙ acc-copy _ (s - 1 - a) ∙ ap (λ i. σ c d i b) (omega arith) ∙ h .is c d (s - 1) b hc hd (omega arith) hb;
+  }
 
 -- the numbers that the lanes hold: the sums of a group's rows up to a cell, as they come by light; the groups before
 abbrev came : State ℕ → State ℕ
@@ -261,16 +269,20 @@ module _ (s : ℕ) {σ w : State ℕ} (h : Reduced s σ w) where
 
   U₆-is : Reduced s (U₆ s σ) (λ c d a b. sum a (λ i. sum (suc (s - 1)) (came w c d i)))
   unfolding U₆
-  U₆-is = copy-left s {w = λ c d a b. sum a (λ i. sum (suc b) (came w c d i))} (record { is = λ c d a b hc hd ha hb.
-      ap₂ minus (Z₅-is .is c d a b hc hd ha hb) (Y₄-is .is c d a b hc hd ha hb) ∙ minus-mod (sum a (λ i. sum (suc b) (came w c d i))) _ })
+  U₆-is = copy-left s {w = λ c d a b. sum a (λ i. sum (suc b) (came w c d i))} (record {
+    is = λ c d a b hc hd ha hb.
+        ap₂ minus (Z₅-is .is c d a b hc hd ha hb) (Y₄-is .is c d a b hc hd ha hb) ∙ minus-mod (sum a (λ i. sum (suc b) (came w c d i))) _;
+  })
 
   M₇-is : Reduced s (M₇ s σ) (before s w)
   unfolding M₇
-  M₇-is = record { is = λ c d a b hc hd ha hb.
-      let u = U₆-is .is a b c d ha hb hc hd in
-      let y = Y₄-is .is a b c d ha hb hc hd in
-      let t = A₃-is .is a b c d ha hb hc hd in
-      ap₂ minus (ap₂ plus u y ∙ plus-mod _ _ ∙ ap (λ n. n % (2 ^ 32)) (omega arith)) t ∙ minus-mod (before s w c d a b) (came w a b c d) }
+  M₇-is = record {
+    is = λ c d a b hc hd ha hb.
+        let u = U₆-is .is a b c d ha hb hc hd in
+        let y = Y₄-is .is a b c d ha hb hc hd in
+        let t = A₃-is .is a b c d ha hb hc hd in
+        ap₂ minus (ap₂ plus u y ∙ plus-mod _ _ ∙ ap (λ n. n % (2 ^ 32)) (omega arith)) t ∙ minus-mod (before s w c d a b) (came w a b c d);
+  }
 
   M₈-is : Reduced s (M₈ s σ) (λ c d a b. before s w c d (s - 1) b)
   unfolding M₈
@@ -278,10 +290,12 @@ module _ (s : ℕ) {σ w : State ℕ} (h : Reduced s σ w) where
 
   V₉-is : Reduced s (V₉ s σ) (λ c d a b. before s w c d (s - 1) (s - 1) + sum a (λ i. sum (suc (s - 1)) (w c d i)))
   unfolding V₉
-  V₉-is = copy-left s {w = λ c d a b. before s w c d (s - 1) b + sum a (λ i. sum (suc b) (w c d i))} (record { is = λ c d a b hc hd ha hb.
-      ap₂ minus (ap₂ plus (M₈-is .is c d a b hc hd ha hb) (C₂-is .is c d a b hc hd ha hb) ∙ plus-mod _ _ ∙ ap (λ n. n % (2 ^ 32)) (omega arith))
-      (R₁-is .is c d a b hc hd ha hb)
-      ∙ minus-mod (before s w c d (s - 1) b + sum a (λ i. sum (suc b) (w c d i))) (sum (suc b) (w c d a)) })
+  V₉-is = copy-left s {w = λ c d a b. before s w c d (s - 1) b + sum a (λ i. sum (suc b) (w c d i))} (record {
+    is = λ c d a b hc hd ha hb.
+        ap₂ minus (ap₂ plus (M₈-is .is c d a b hc hd ha hb) (C₂-is .is c d a b hc hd ha hb) ∙ plus-mod _ _ ∙ ap (λ n. n % (2 ^ 32)) (omega arith))
+        (R₁-is .is c d a b hc hd ha hb)
+        ∙ minus-mod (before s w c d (s - 1) b + sum a (λ i. sum (suc b) (w c d i))) (sum (suc b) (w c d a));
+  })
 
   P₉-is : Reduced s (P₉ s σ) (λ c d a b. sum (suc b) (w c d a) + (before s w c d (s - 1) (s - 1) + sum a (λ i. sum (suc (s - 1)) (w c d i))))
   unfolding P₉

@@ -13,10 +13,7 @@ use Rattle.laws.proofs.Tables.{entries-all, entries-cong, entries-same}
 use Rattle.array.specs.Cells.{groups, cells, cell, group, place, row, column, partner}
 use Rattle.array.proofs.Board.{cell-of, place-is, group-in, place-in, row-in, column-in, group-of, place-of}
 use Rattle.words.specs.Machine.{State, at, load, unload, valueAt}
-
--- the words of l are those of the state σ
-pub record Holds (s : ℕ) (l : List ℕ) (σ : State ℕ) : Type 0 where
-  pub is : (c d a b : ℕ) → c < s → d < s → a < s → b < s → getD l (at s c d a b) 0 ≡ σ c d a b
+use Rattle.words.specs.Inside.{Holds}
 
 pub holds-load : (s : ℕ) (l : List ℕ) → Holds s l (load s l)
 holds-load s l = record { is = λ c d a b _ _ _ _. refl }
@@ -81,7 +78,7 @@ pub sum-to : (s : ℕ) (f : ℕ → ℕ) (c d a b : ℕ)
 sum-to s f c d a b =
     let whole : (g : ℕ) → sum (s * s) (λ i. f (g * (s * s) + i)) ≡ sum s (λ k. sum s (λ l. f (g * (s * s) + (k * s + l)))) = λ g. sum-blocks s s _ in
     let e₁ : sum (at s c d a b) f ≡ sum (c * s + d) (λ g. sum s (λ k. sum s (λ l. f (g * (s * s) + (k * s + l))))) + sum (a * s + b) (λ i. f ((c * s + d) * (s * s) + i))
-        = sum-rows (s * s) f (c * s + d) (a * s + b) ∙ ap (λ n. n + sum (a * s + b) (λ i. f ((c * s + d) * (s * s) + i))) (sum-cong (c * s + d) (λ g h. whole g)) in
+    = sum-rows (s * s) f (c * s + d) (a * s + b) ∙ ap (λ n. n + sum (a * s + b) (λ i. f ((c * s + d) * (s * s) + i))) (sum-cong (c * s + d) (λ g h. whole g)) in
     let e₂ = sum-rows s (λ g. sum s (λ k. sum s (λ l. f (g * (s * s) + (k * s + l))))) c d in
     let e₃ = sum-rows s (λ i. f ((c * s + d) * (s * s) + i)) a b in
     omega arith

@@ -105,10 +105,10 @@ module _ (s : ℕ) (w : Way) (edge : Edge) (k : Distance) (σ : State ℕ) where
 
   backStage : Stage Shifting
   backStage = record {
-      run = along (opposite w) (backMoves edge s k);
-      send = λ o. o .y;
-      rule = λ n c d a b. back (takesBack edge (forthMoves edge s k) (position w a b))
-    }
+    run = along (opposite w) (backMoves edge s k);
+    send = λ o. o .y;
+    rule = λ n c d a b. back (takesBack edge (forthMoves edge s k) (position w a b));
+  }
 
   σ₁ : State Shifting
   σ₁ = all s forthStage (λ c d a b. loadShift (σ c d a b))
@@ -174,6 +174,7 @@ module _ (s : ℕ) (f : ℕ → ℕ) (p : ℕ) (p-in : p < s) where
     where
       q : p + 0 ≡ p
       q = omega arith
+
       go : Dec (p < n) → shiftedOn n f p ≡ wordFrom f (cameFrom ZeroFill s (distanceOf (pos n)) p)
       go (yes l) = rw (q, lt-ltb p n l)
       go (no l) = rw (q, le-ltb p n (omega arith), lt-ltb (p - n) s (omega arith))
@@ -181,6 +182,7 @@ module _ (s : ℕ) (f : ℕ → ℕ) (p : ℕ) (p-in : p < s) where
     where
       q : p + suc n - 0 ≡ p + suc n
       q = omega arith
+
       go : Dec (p + suc n < s) → shiftedBack s (suc n) f p ≡ wordFrom f (cameFrom ZeroFill s (distanceOf (negsuc n)) p)
       go (yes l) = rw (q, le-ltb (p + suc n) 0 (omega arith), lt-ltb (p + suc n) s l)
       go (no l) = rw (q, le-ltb (p + suc n) 0 (omega arith), le-ltb (p + suc n) s (omega arith))

@@ -44,6 +44,7 @@ module _ {R : Type 0} (φ : R → ℕ) (m : Run) (ρ : ℕ → Rule R) (ρ′ : 
     where
       τ : State R
       τ = ran s (record { run = m; send = φ; rule = ρ }) k σ
+
       one : (c d a b : ℕ) → φ (ρ k c d a b (τ c d a b) (receive s (m .step) (lane φ τ) c d a b)) ≡ ρ′ k c d a b (φ (τ c d a b)) (receive s (m .step) (lane φ τ) c d a b)
       one c d a b = rw (← got-receive φ s (m .step) τ c d a b) (alone k c d a b (τ c d a b) (receive s (m .step) τ c d a b))
 

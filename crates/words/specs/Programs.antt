@@ -176,6 +176,6 @@ shift s axis edge k =
     record {
       run = along (opposite (forthWay axis)) (backMoves edge s k);
       send = λ o. o .y;
-      rule = λ n c d a b. back (takesBack edge (forthMoves edge s k) (position (forthWay axis) a b))
+      rule = λ n c d a b. back (takesBack edge (forthMoves edge s k) (position (forthWay axis) a b));
     } ∷
     light (swapsOf axis) (λ o. o .x) swapShift ∷ []

@@ -1,1 +1,2 @@
-// words
+// The operations that use words only: broadcast, data sum, prefix sum and the eight shifts, and a group's own stretch of words.
+mod steps;
