@@ -13,6 +13,7 @@ use Rattle.array.specs.Lists.{prefixSumRuns}
 use Rattle.words.specs.Machine.{State, Stage, all, made, runsOf, at, load, unload}
 use Rattle.words.specs.Programs.{from, light, word, copy, plus, minus, Sums, loadSums, addRow, addColumn, takeGroup, addGroups, addGroupRows, rowsAbove, takeAbove, groupsBefore, takeBefore, rowBefore, takeRow, unloadSums, prefixSum}
 use Rattle.words.specs.Results.{prefixSumWords}
+use Rattle.words.specs.Inside.{swapped, summed, copied, modified, finished}
 use Rattle.words.proofs.Coordinates.{unload-by, sum-to}
 use Rattle.words.proofs.Lines.{acc, right-all, down-all, left-all, up-all}
 use Rattle.words.proofs.Spreading.{acc-copy, acc-plus}
@@ -20,42 +21,43 @@ use Rattle.words.proofs.Views.{lane, from-view, from-keeps, from-stays}
 
 -- the lanes of the nine steps
 module _ (s : ℕ) where
-  -- along whole lines
-  abbrev pub summed : Way → State ℕ → State ℕ
-  summed w σ = all s (from w word plus 0 (s - 1)) σ
-
-  abbrev pub copied : Way → State ℕ → State ℕ
-  copied w σ = all s (from w word copy (s - 1) (s - 1)) σ
-
   unfoldable pub R₁ : State ℕ → State ℕ
-  R₁ w = summed Right w
+  R₁ w = summed s Right w
 
   unfoldable pub C₂ : State ℕ → State ℕ
-  C₂ w = summed Down (R₁ w)
+  C₂ w = summed s Down (R₁ w)
 
   unfoldable pub A₃ : State ℕ → State ℕ
-  A₃ w c d a b = C₂ w a b c d
+  A₃ w = swapped (C₂ w)
 
   unfoldable pub Y₄ : State ℕ → State ℕ
-  Y₄ w = summed Right (A₃ w)
+  Y₄ w = summed s Right (A₃ w)
 
   unfoldable pub Z₅ : State ℕ → State ℕ
-  Z₅ w = summed Down (Y₄ w)
+  Z₅ w = summed s Down (Y₄ w)
 
   unfoldable pub U₆ : State ℕ → State ℕ
-  U₆ w = copied Left (λ c d a b. minus (Z₅ w c d a b) (Y₄ w c d a b))
+  U₆ w = copied s Left (λ c d a b. minus (Z₅ w c d a b) (Y₄ w c d a b))
 
   unfoldable pub M₇ : State ℕ → State ℕ
   M₇ w c d a b = minus (plus (U₆ w a b c d) (Y₄ w a b c d)) (A₃ w a b c d)
 
   unfoldable pub M₈ : State ℕ → State ℕ
-  M₈ w = copied Up (M₇ w)
+  M₈ w = copied s Up (M₇ w)
 
   unfoldable pub V₉ : State ℕ → State ℕ
-  V₉ w = copied Left (λ c d a b. minus (plus (M₈ w c d a b) (C₂ w c d a b)) (R₁ w c d a b))
+  V₉ w = copied s Left (λ c d a b. minus (plus (M₈ w c d a b) (C₂ w c d a b)) (R₁ w c d a b))
 
   unfoldable pub P₉ : State ℕ → State ℕ
   P₉ w c d a b = plus (R₁ w c d a b) (V₉ w c d a b)
+
+-- the last lane from those that the code's parts leave
+pub parts-are : (s : ℕ) (w : State ℕ)
+    → finished s (summed s Right w) (summed s Down (summed s Right w)) (modified s (swapped (summed s Down (summed s Right w)))
+    (summed s Right (swapped (summed s Down (summed s Right w)))) (summed s Down (summed s Right (swapped (summed s Down (summed s Right w))))))
+    ≡ P₉ s w
+unfolding R₁ C₂ A₃ Y₄ Z₅ U₆ M₇ M₈ V₉ P₉
+parts-are s w = refl
 
 -- what is taken off again was added
 off-again : (x y : ℕ) → x < 2 ^ 32 → minus (plus x y) y ≡ x

@@ -1,4 +1,5 @@
 pub mod Adding
+pub mod Composing
 pub mod Coordinates
 pub mod Lines
 pub mod Shifting

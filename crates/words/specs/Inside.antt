@@ -12,13 +12,15 @@ use Rattle.array.specs.declared.moves.Way.the-variants.{Right, Left, Up, Down}
 use Rattle.array.specs.declared.moves.Move.the-variants.{Swap, Electronic}
 use Rattle.array.specs.Cells.{groups, cells, row, column}
 use Rattle.array.specs.Moves.{along}
+use Rattle.words.specs.declared.lanes.Combining.{Combining}
+use Rattle.words.specs.declared.lanes.Combining.the-variants.{Take, Plus, Minus}
 use Rattle.words.specs.declared.steps.Joining.{Joining}
 use Rattle.words.specs.declared.steps.Joining.the-variants.{Add, Copy, Fill}
 use Rattle.words.specs.declared.steps.Rule.{Rule}
 use Rattle.words.specs.declared.steps.Source.{Source}
 use Rattle.words.specs.declared.steps.Source.the-variants.{At, Nothing}
-use Rattle.words.specs.Machine.{State, Stage, make, at}
-use Rattle.words.specs.Programs.{position, stepsOn, front, word, copy, plus, filled}
+use Rattle.words.specs.Machine.{State, Stage, make, all, at}
+use Rattle.words.specs.Programs.{position, stepsOn, front, from, word, copy, plus, minus, filled}
 
 -- a lane of n words is one of a board of side s
 pub record Board (s n : ℕ) : Type 0 where
@@ -73,3 +75,57 @@ steppedAll s w r = make s (Electronic w) word (λ c d a b. ruleOf (r .joining) (
 -- n moves one way: from position e on with a front, or of all positions
 abbrev pub running : Way → Joining → ℕ → ℕ → Stage ℕ
 running w j e n = record { run = along w n; send = word; rule = λ k c d a b. ruleOf j (stepsOn w e (suc k)) (position w a b) }
+
+-- a lane whose words became, cell by cell, what f makes of the cell and its word
+abbrev pub cellwise : (ℕ → ℕ → ℕ) → List ℕ → List ℕ
+cellwise f l = entries (λ i. f i (getD l i 0)) 0 (length l)
+
+abbrev pub combineOf : Combining → ℕ → ℕ → ℕ
+combineOf Take own x = x
+combineOf Plus own x = plus own x
+combineOf Minus own x = minus own x
+
+-- l′ is l with m taken in its place, added or taken off
+pub record Combined (how : Combining) (l m l′ : List ℕ) : Type 0 where
+  pub is : l′ ≡ cellwise (λ i own. combineOf how own (getD m i 0)) l
+
+-- a swap, and runs over whole lines: sums from the first position on, copies from the last one back
+abbrev pub swapped : State ℕ → State ℕ
+swapped σ c d a b = σ a b c d
+
+abbrev pub summed : ℕ → Way → State ℕ → State ℕ
+summed s w σ = all s (from w word plus 0 (s - 1)) σ
+
+abbrev pub copied : ℕ → Way → State ℕ → State ℕ
+copied s w σ = all s (from w word copy (s - 1) (s - 1)) σ
+
+-- Prefix sum on lanes. Steps 1 and 2: the row sums in r, their column sums in c.
+pub record RowsAndColumns (s : ℕ) (r r′ c′ : List ℕ) : Type 0 where
+  pub rows : Moved s (summed s Right) r r′
+  pub columns : Moved s (λ σ. summed s Down (summed s Right σ)) r c′
+
+-- step 3 and the sums of step 4: a is what came by light, y its row sums, z their column sums
+pub record GroupSums (s : ℕ) (c a′ y′ z′ : List ℕ) : Type 0 where
+  pub came : Moved s swapped c a′
+  pub rows : Moved s (λ σ. summed s Right (swapped σ)) c y′
+  pub columns : Moved s (λ σ. summed s Down (summed s Right (swapped σ))) c z′
+
+-- the rest of step 4, and step 5: the modified sums, sent back by light
+abbrev pub modified : ℕ → State ℕ → State ℕ → State ℕ → State ℕ
+modified s A Y Z = swapped (λ c d a b. minus (plus (copied s Left (λ c d a b. minus (Z c d a b) (Y c d a b)) c d a b) (Y c d a b)) (A c d a b))
+
+pub record Modified (s : ℕ) (a y z z′ : List ℕ) : Type 0 where
+  pub so : (A Y Z : State ℕ) → Holds s a A → Holds s y Y → Holds s z Z → Holds s z′ (modified s A Y Z)
+
+-- steps 6 to 9: up the last column, the column sum on and the row sum off, along the rows, and the row sum on
+abbrev pub finished : ℕ → State ℕ → State ℕ → State ℕ → State ℕ
+finished s R C M c d a b =
+    plus (R c d a b) (copied s Left (λ c d a b. minus (plus (copied s Up M c d a b) (C c d a b)) (R c d a b)) c d a b)
+
+pub record Finished (s : ℕ) (r c z r′ : List ℕ) : Type 0 where
+  pub so : (R C M : State ℕ) → Holds s r R → Holds s c C → Holds s z M → Holds s r′ (finished s R C M)
+
+-- lanes that are all of a board
+pub record Lanes (s n m : ℕ) : Type 0 where
+  pub board : Board s n
+  pub same : m ≡ n
