@@ -11,7 +11,7 @@ use Rattle.array.specs.declared.moves.Way.{Way}
 use Rattle.array.specs.declared.moves.Way.the-variants.{Right, Left, Up, Down}
 use Rattle.array.specs.Lists.{prefixSumRuns}
 use Rattle.words.specs.Machine.{State, Stage, all, made, runsOf, at, load, unload}
-use Rattle.words.specs.Programs.{from, light, word, copy, plus, minus, Sums, loadSums, addRow, addColumn, takeGroup, addGroups, addGroupRows, rowsAbove, takeAbove, groupsBefore, takeBefore, rowBefore, takeRow, unloadSums, prefixSum}
+use Rattle.words.specs.Programs.{from, light, word, copy, plus, minus, Sums, loadSums, addRow, addColumn, takeGroup, addGroups, addGroupRows, rowsAbove, takeAbove, groupsBefore, takeBefore, rowBefore, takeRow, unloadSums, prefixSum, prefixed}
 use Rattle.words.specs.Results.{prefixSumWords}
 use Rattle.words.specs.Inside.{swapped, summed, copied, modified, finished}
 use Rattle.words.proofs.Coordinates.{unload-by, sum-to}
@@ -200,7 +200,7 @@ module _ (s : ℕ) (w : State ℕ) where
   r₉ = from-stays (λ o. o .r) rowBefore takeRow (λ o x. refl) s Left (s - 1) (s - 1) r₈
 
   -- the program's words are those of the last lane
-  pub prefixSum-lanes : lane unloadSums (made s (prefixSum s) (λ c d a b. loadSums (w c d a b))) ≡ P₉ s w
+  pub prefixSum-lanes : prefixed s w ≡ P₉ s w
   unfolding σ₁ σ₂ σ₃ σ₄ σ₅ σ₆ σ₇ σ₈ σ₉ P₉
   prefixSum-lanes = ap₂ {C = State ℕ} (λ (τ υ : State ℕ) c d a b. plus (τ c d a b) (υ c d a b)) r₉ v₉
 
@@ -313,7 +313,7 @@ P₉-sums s l pos small = unload-by s (P₉ s (load s l)) _ pos (λ c d a b hc h
 
 -- the word at i becomes the sum of words 0 to i
 pub prefixSum-all : (s : ℕ) (l : List ℕ) → 1 ≤ s → ((i : ℕ) → getD l i 0 < 2 ^ 32)
-    → unload s (λ c d a b. unloadSums (made s (prefixSum s) (λ c d a b. loadSums (load s l c d a b)) c d a b)) ≡ prefixSumWords s l
+    → unload s (prefixed s (load s l)) ≡ prefixSumWords s l
 prefixSum-all s l pos small = ap (unload s) (prefixSum-lanes s (load s l)) ∙ P₉-sums s l pos small
 
 -- the moves that the program makes are those of the list

@@ -21,16 +21,13 @@ use Rattle.array.specs.Moves.{moves, along, opposite}
 use Rattle.array.specs.declared.shifts.Distance.{Distance}
 use Rattle.array.specs.Shifts.{distanceOf, within, modulo, forthMoves, backMoves, forthWay, swapsOf, shiftList}
 use Rattle.words.specs.Machine.{State, Rule, Stage, fromBefore, fromAfter, ran, all, made, runsOf, load, unload}
-use Rattle.words.specs.Programs.{position, Shifting, loadShift, filled, forth, takesBack, back, shift}
+use Rattle.words.specs.Programs.{position, Shifting, loadShift, filled, forth, takesBack, back, shift, shiftedBy}
 use Rattle.words.specs.Results.{cameFrom, wordFrom, shifted, shiftWords}
+use Rattle.words.specs.Inside.{slide, takes, meshShift, shiftOn}
 use Rattle.words.proofs.Coordinates.{unload-cong}
 use Rattle.words.proofs.Lines.{line, plain}
 use Rattle.words.proofs.Lines as lines
 use Rattle.words.proofs.Views.{lane, ran-view, ran-keeps}
-
--- n moves in which every cell takes what comes, and 0 where nothing comes
-abbrev pub slide : ℕ → Way → ℕ → State ℕ → State ℕ
-slide s w n σ = all s (plain w n (λ k c d a b own got. filled got)) σ
 
 -- the word that comes to position p when each goes k on, or k back
 abbrev shiftedOn : ℕ → (ℕ → ℕ) → ℕ → ℕ
@@ -72,22 +69,8 @@ module _ (s : ℕ) (σ : State ℕ) (k c d a b : ℕ) where
   slide-up : a < s → slide s Up k σ c d a b ≡ shiftedBack s k (λ i. σ c d i b) a
   slide-up h = ap (λ (g : ℕ → ℕ). g a) (lines.up s k _ σ c d k b) ∙ line-back s (λ i. σ c d i b) k a h
 
--- of the words that went m forth and those that went n back, the one that a cell takes
-abbrev pub takes : Edge → ℕ → ℕ → ℕ → Bool
-takes edge n m p = ltb 0 n && takesBack edge m p
-
--- a shift inside the groups
-abbrev pub meshShift : ℕ → Way → Edge → Distance → State ℕ → State ℕ
-meshShift s w edge k σ c d a b =
-    cond (takes edge (backMoves edge s k) (forthMoves edge s k) (position w a b))
-    (slide s (opposite w) (backMoves edge s k) σ c d a b) (slide s w (forthMoves edge s k) σ c d a b)
-
--- between swaps, or by itself
-abbrev pub shiftState : ℕ → Axis → Edge → Distance → State ℕ → State ℕ
-shiftState s MeshRow edge k σ c d a b = meshShift s Right edge k σ c d a b
-shiftState s MeshColumn edge k σ c d a b = meshShift s Down edge k σ c d a b
-shiftState s GroupRow edge k σ c d a b = meshShift s Right edge k (λ c d a b. σ a b c d) a b c d
-shiftState s GroupColumn edge k σ c d a b = meshShift s Down edge k (λ c d a b. σ a b c d) a b c d
+abbrev shiftState : ℕ → Axis → Edge → Distance → State ℕ → State ℕ
+shiftState s axis edge k σ = shiftOn s axis edge (forthMoves edge s k) (backMoves edge s k) σ
 
 -- a cell that takes what comes back has it from the first move back on
 taken : (n : ℕ) (t : Bool) (y y′ x x′ : ℕ) → x ≡ cond (ltb 0 n && t) y x′ → cond t y′ x ≡ cond (ltb 0 (suc n) && t) y′ x′
@@ -130,21 +113,21 @@ module _ (s : ℕ) (w : Way) (edge : Edge) (k : Distance) (σ : State ℕ) where
       ∙ ap (ran s (plain (opposite w) (backMoves edge s k) (λ k c d a b own got. filled got)) n) y₁
 
   x₂ : (n c d a b : ℕ) → ran s backStage n σ₁ c d a b .x
-      ≡ cond (takes edge n (forthMoves edge s k) (position w a b)) (ran s backStage n σ₁ c d a b .y) (σ₁ c d a b .x)
+      ≡ cond (takes edge (forthMoves edge s k) n (position w a b)) (ran s backStage n σ₁ c d a b .y) (σ₁ c d a b .x)
   unfolding backStage
   x₂ zero c d a b = refl
   x₂ (suc n) c d a b = taken n (takesBack edge (forthMoves edge s k) (position w a b)) _ _ _ _ (x₂ n c d a b)
 
   -- the program inside the groups
-  mesh-lane : lane (λ o. o .x) (all s backStage σ₁) ≡ meshShift s w edge k σ
+  mesh-lane : lane (λ o. o .x) (all s backStage σ₁) ≡ meshShift s w edge (forthMoves edge s k) (backMoves edge s k) σ
   unfolding backStage
   mesh-lane = fun-ext (λ c. fun-ext (λ d. fun-ext (λ a. fun-ext (λ b.
       x₂ (backMoves edge s k) c d a b
-      ∙ ap₂ (cond (takes edge (backMoves edge s k) (forthMoves edge s k) (position w a b)))
+      ∙ ap₂ (cond (takes edge (forthMoves edge s k) (backMoves edge s k) (position w a b)))
       (ap (λ (τ : State ℕ). τ c d a b) (y₂ (backMoves edge s k))) (ap (λ (τ : State ℕ). τ c d a b) x₁)))))
 
 pub shift-lane : (s : ℕ) (axis : Axis) (edge : Edge) (k : Distance) (σ : State ℕ)
-    → lane (λ o. o .x) (made s (shift s axis edge k) (λ c d a b. loadShift (σ c d a b))) ≡ shiftState s axis edge k σ
+    → shiftedBy s axis edge k σ ≡ shiftOn s axis edge (forthMoves edge s k) (backMoves edge s k) σ
 unfolding σ₁ forthStage backStage
 shift-lane s MeshRow edge k σ = mesh-lane s Right edge k σ
 shift-lane s MeshColumn edge k σ = mesh-lane s Down edge k σ
@@ -167,7 +150,7 @@ module _ (s : ℕ) (f : ℕ → ℕ) (p : ℕ) (p-in : p < s) where
   modulo-in (negsuc n) h = rw (lt-ltb 0 (suc n) (omega arith)) (omega arith)
 
   abbrev lineShift : Edge → Distance → ℕ
-  lineShift edge k = cond (takes edge (backMoves edge s k) (forthMoves edge s k) p) (shiftedBack s (backMoves edge s k) f p) (shiftedOn (forthMoves edge s k) f p)
+  lineShift edge k = cond (takes edge (forthMoves edge s k) (backMoves edge s k) p) (shiftedBack s (backMoves edge s k) f p) (shiftedOn (forthMoves edge s k) f p)
 
   line-shifted : (edge : Edge) (k : ℤ) → within s (distanceOf k) ≡ true → lineShift edge (distanceOf k) ≡ wordFrom f (cameFrom edge s (distanceOf k) p)
   line-shifted ZeroFill (pos n) h = go (decLt p n)
@@ -191,15 +174,15 @@ module _ (s : ℕ) (f : ℕ → ℕ) (p : ℕ) (p-in : p < s) where
 
 -- each word goes where it is to go
 mesh-row : (s : ℕ) (edge : Edge) (k : ℤ) (σ : State ℕ) → within s (distanceOf k) ≡ true → (c d a b : ℕ) → b < s
-    → meshShift s Right edge (distanceOf k) σ c d a b ≡ wordFrom (σ c d a) (cameFrom edge s (distanceOf k) b)
+    → meshShift s Right edge (forthMoves edge s (distanceOf k)) (backMoves edge s (distanceOf k)) σ c d a b ≡ wordFrom (σ c d a) (cameFrom edge s (distanceOf k) b)
 mesh-row s edge k σ h c d a b hb =
-    ap₂ (cond (takes edge (backMoves edge s (distanceOf k)) (forthMoves edge s (distanceOf k)) b)) (slide-left s σ (backMoves edge s (distanceOf k)) c d a b hb) (slide-right s σ (forthMoves edge s (distanceOf k)) c d a b)
+    ap₂ (cond (takes edge (forthMoves edge s (distanceOf k)) (backMoves edge s (distanceOf k)) b)) (slide-left s σ (backMoves edge s (distanceOf k)) c d a b hb) (slide-right s σ (forthMoves edge s (distanceOf k)) c d a b)
     ∙ line-shifted s (σ c d a) b hb edge k h
 
 mesh-column : (s : ℕ) (edge : Edge) (k : ℤ) (σ : State ℕ) → within s (distanceOf k) ≡ true → (c d a b : ℕ) → a < s
-    → meshShift s Down edge (distanceOf k) σ c d a b ≡ wordFrom (λ i. σ c d i b) (cameFrom edge s (distanceOf k) a)
+    → meshShift s Down edge (forthMoves edge s (distanceOf k)) (backMoves edge s (distanceOf k)) σ c d a b ≡ wordFrom (λ i. σ c d i b) (cameFrom edge s (distanceOf k) a)
 mesh-column s edge k σ h c d a b ha =
-    ap₂ (cond (takes edge (backMoves edge s (distanceOf k)) (forthMoves edge s (distanceOf k)) a)) (slide-up s σ (backMoves edge s (distanceOf k)) c d a b ha) (slide-down s σ (forthMoves edge s (distanceOf k)) c d a b)
+    ap₂ (cond (takes edge (forthMoves edge s (distanceOf k)) (backMoves edge s (distanceOf k)) a)) (slide-up s σ (backMoves edge s (distanceOf k)) c d a b ha) (slide-down s σ (forthMoves edge s (distanceOf k)) c d a b)
     ∙ line-shifted s (λ i. σ c d i b) a ha edge k h
 
 shift-is : (s : ℕ) (axis : Axis) (edge : Edge) (k : ℤ) (σ : State ℕ) → within s (distanceOf k) ≡ true → (c d a b : ℕ) → c < s → d < s → a < s → b < s
@@ -209,13 +192,13 @@ shift-is s MeshColumn edge k σ h c d a b hc hd ha hb = mesh-column s edge k σ 
 shift-is s GroupRow edge k σ h c d a b hc hd ha hb = mesh-row s edge k (λ c d a b. σ a b c d) h a b c d hd
 shift-is s GroupColumn edge k σ h c d a b hc hd ha hb = mesh-column s edge k (λ c d a b. σ a b c d) h a b c d hc
 
-pub shift-words : (s : ℕ) (axis : Axis) (edge : Edge) (k : ℤ) (l : List ℕ) → 1 ≤ s → within s (distanceOf k) ≡ true
+shift-words : (s : ℕ) (axis : Axis) (edge : Edge) (k : ℤ) (l : List ℕ) → 1 ≤ s → within s (distanceOf k) ≡ true
     → unload s (shiftState s axis edge (distanceOf k) (load s l)) ≡ shiftWords s axis edge k l
 shift-words s axis edge k l least h = unload-cong s _ _ least (shift-is s axis edge k (load s l) h)
 
 -- the listed moves shift each word as it is to be
 pub shift-all : (s : ℕ) (axis : Axis) (edge : Edge) (k : ℤ) (l : List ℕ) → 1 ≤ s → within s (distanceOf k) ≡ true
-    → unload s (λ c d a b. made s (shift s axis edge (distanceOf k)) (λ c d a b. loadShift (load s l c d a b)) c d a b .x) ≡ shiftWords s axis edge k l
+    → unload s (shiftedBy s axis edge (distanceOf k) (load s l)) ≡ shiftWords s axis edge k l
 shift-all s axis edge k l least h = ap (unload s) (shift-lane s axis edge (distanceOf k) (load s l)) ∙ shift-words s axis edge k l least h
 
 -- the moves that the program makes are those of the list

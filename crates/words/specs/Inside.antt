@@ -1,7 +1,7 @@
 -- What the functions inside the crate do to one lane: a move of a group's own stretch, a move of all groups, a run.
 use Prim.Native.Nat.{ℕ, suc, _+_, _-_, _≤_, _<_}
 use mathlib.Core.Path.{_≡_}
-use mathlib.Core.Bool.{cond}
+use mathlib.Core.Bool.{Bool, cond, _&&_}
 use mathlib.Core.Option.{Option, none, some}
 use mathlib.Core.List.{List}
 use lib.ListN.{length, getD}
@@ -10,8 +10,11 @@ use Rattle.laws.specs.Tables.{entries}
 use Rattle.array.specs.declared.moves.Way.{Way}
 use Rattle.array.specs.declared.moves.Way.the-variants.{Right, Left, Up, Down}
 use Rattle.array.specs.declared.moves.Move.the-variants.{Swap, Electronic}
-use Rattle.array.specs.Cells.{groups, cells, row, column}
-use Rattle.array.specs.Moves.{along}
+use Rattle.array.specs.declared.shifts.Axis.{Axis}
+use Rattle.array.specs.declared.shifts.Axis.the-variants.{MeshRow, MeshColumn, GroupRow, GroupColumn}
+use Rattle.array.specs.declared.shifts.Edge.{Edge}
+use Rattle.array.specs.Cells.{groups, cells, place, row, column}
+use Rattle.array.specs.Moves.{along, opposite}
 use Rattle.words.specs.declared.lanes.Combining.{Combining}
 use Rattle.words.specs.declared.lanes.Combining.the-variants.{Take, Plus, Minus}
 use Rattle.words.specs.declared.steps.Joining.{Joining}
@@ -20,7 +23,7 @@ use Rattle.words.specs.declared.steps.Rule.{Rule}
 use Rattle.words.specs.declared.steps.Source.{Source}
 use Rattle.words.specs.declared.steps.Source.the-variants.{At, Nothing}
 use Rattle.words.specs.Machine.{State, Stage, make, all, at}
-use Rattle.words.specs.Programs.{position, stepsOn, front, from, word, copy, plus, minus, filled}
+use Rattle.words.specs.Programs.{position, stepsOn, front, from, word, copy, plus, minus, filled, takesBack}
 
 -- a lane of n words is one of a board of side s
 pub record Board (s n : ℕ) : Type 0 where
@@ -125,7 +128,26 @@ finished s R C M c d a b =
 pub record Finished (s : ℕ) (r c z r′ : List ℕ) : Type 0 where
   pub so : (R C M : State ℕ) → Holds s r R → Holds s c C → Holds s z M → Holds s r′ (finished s R C M)
 
--- lanes that are all of a board
-pub record Lanes (s n m : ℕ) : Type 0 where
-  pub board : Board s n
-  pub same : m ≡ n
+-- Shifts on lanes: n moves in which every cell takes what comes, and 0 where nothing comes
+abbrev pub slide : ℕ → Way → ℕ → State ℕ → State ℕ
+slide s w n σ = all s (running w Fill 0 n) σ
+
+-- whether a cell takes the word that came n moves back, and not the one that came m moves forth
+abbrev pub takes : Edge → ℕ → ℕ → ℕ → Bool
+takes edge m n p = ltb 0 n && takesBack edge m p
+
+-- a shift inside the groups
+abbrev pub meshShift : ℕ → Way → Edge → ℕ → ℕ → State ℕ → State ℕ
+meshShift s w edge m n σ c d a b = cond (takes edge m n (position w a b)) (slide s (opposite w) n σ c d a b) (slide s w m σ c d a b)
+
+-- by itself, or between swaps
+abbrev pub shiftOn : ℕ → Axis → Edge → ℕ → ℕ → State ℕ → State ℕ
+shiftOn s MeshRow edge m n σ c d a b = meshShift s Right edge m n σ c d a b
+shiftOn s MeshColumn edge m n σ c d a b = meshShift s Down edge m n σ c d a b
+shiftOn s GroupRow edge m n σ c d a b = swapped (meshShift s Right edge m n (swapped σ)) c d a b
+shiftOn s GroupColumn edge m n σ c d a b = swapped (meshShift s Down edge m n (swapped σ)) c d a b
+
+-- l, with the words of m in the cells that take them
+abbrev pub chosen : ℕ → Way → Edge → ℕ → ℕ → List ℕ → List ℕ → List ℕ
+chosen s w edge forth home l m =
+    cellwise (λ i own. cond (takes edge forth home (position w (row s (place s i)) (column s (place s i)))) (getD m i 0) own) l

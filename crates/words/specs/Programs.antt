@@ -143,6 +143,10 @@ prefixSum s =
     from Up (λ o. o .z) takeBefore (s - 1) (s - 1) ∷
     from Left rowBefore takeRow (s - 1) (s - 1) ∷ []
 
+-- what it makes of a state of words
+abbrev pub prefixed : ℕ → State ℕ → State ℕ
+prefixed s σ c d a b = unloadSums (made s (prefixSum s) (λ c d a b. loadSums (σ c d a b)) c d a b)
+
 -- Shifts: x goes forth and y goes back, and 0 comes in at the edge.
 pub record Shifting : Type 0 where
   pub x : ℕ
@@ -179,3 +183,7 @@ shift s axis edge k =
       rule = λ n c d a b. back (takesBack edge (forthMoves edge s k) (position (forthWay axis) a b));
     } ∷
     light (swapsOf axis) (λ o. o .x) swapShift ∷ []
+
+-- what it makes of a state of words
+abbrev pub shiftedBy : ℕ → Axis → Edge → Distance → State ℕ → State ℕ
+shiftedBy s axis edge k σ c d a b = made s (shift s axis edge k) (λ c d a b. loadShift (σ c d a b)) c d a b .x

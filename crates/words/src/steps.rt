@@ -72,7 +72,7 @@ fn comes_from(side: usize, way: Way, i: usize) -> Source
 }
 
 // The position of place i on its line.
-fn position(side: usize, way: Way, i: usize) -> usize
+pub(crate) fn position(side: usize, way: Way, i: usize) -> usize
     requires { ⌜ 1 ≤ side ⌝ }
     ensures { λ r. ⌜ r ≡ positionOf way (row side i) (column side i) ⌝ }
 {

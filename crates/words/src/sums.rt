@@ -11,7 +11,7 @@ ghost use mathlib.Core.Bool.{cond};
 ghost use lib.ListN.{length};
 ghost use Rattle.light.specs.Lane.{isBoard};
 ghost use Rattle.words.specs.Machine.{made};
-ghost use Rattle.words.specs.Programs.{groupSum, dataSum};
+ghost use Rattle.words.specs.Programs.{groupSum, dataSum, prefixed};
 ghost use Rattle.words.specs.Results.{prefixSumWords};
 ghost use Rattle.words.specs.Inside.{Board, Moved, RowsAndColumns, GroupSums, Modified, Finished};
 
@@ -93,4 +93,56 @@ fn finish(r: &mut [u32], c: &[u32], z: &mut [u32], side: usize)
     combine(z, &r[..], Combining::Minus);
     run(z, side, Way::Left, Joining::Copy, last, last);
     combine(r, &z[..], Combining::Plus);
+}
+
+// The nine steps on five lanes: r holds the words, and at the end their prefix sums.
+fn prefix_lanes(
+    r: &mut [u32],
+    c: &mut [u32],
+    a: &mut [u32],
+    y: &mut [u32],
+    z: &mut [u32],
+    side: usize,
+)
+    requires { ⌜ Board side (length (now r)) ⌝ }
+    requires { ⌜ length (now c) ≡ length (now r) ⌝ }
+    requires { ⌜ length (now a) ≡ length (now r) ⌝ }
+    requires { ⌜ length (now y) ≡ length (now r) ⌝ }
+    requires { ⌜ length (now z) ≡ length (now r) ⌝ }
+    ensures { λ _. ⌜ Moved side (prefixed side) (now (r .entry)) (now (r .exit)) ⌝ }
+{
+    rows_and_columns(r, c, side);
+    group_sums(&c[..], a, y, z, side);
+    modify(&a[..], &y[..], z, side);
+    finish(r, &c[..], z, side);
+}
+
+// Each word becomes the sum of the words up to it.
+pub(crate) fn sum_up(words: &mut [u32], side: usize)
+    requires { ⌜ Board side (length (now words)) ⌝ }
+    ensures { λ _. ⌜ Moved side (prefixed side) (now (words .entry)) (now (words .exit)) ⌝ }
+{
+    let mut c = [0u32; 4096];
+    let mut a = [0u32; 4096];
+    let mut y = [0u32; 4096];
+    let mut z = [0u32; 4096];
+    let n = words.len();
+    prefix_lanes(
+        words,
+        &mut c[..n],
+        &mut a[..n],
+        &mut y[..n],
+        &mut z[..n],
+        side,
+    );
+}
+
+// The same for every side and every lane: what is no lane of a board stays.
+pub fn prefix_words(side: usize, words: &mut [u32])
+    ensures { λ _. ⌜ now (words .exit) ≡ cond (isBoard side (length (now (words .entry)))) (prefixSumWords side (now (words .entry))) (now (words .entry)) ⌝ }
+{
+    if !is_board(side, words.len()) {
+        return;
+    }
+    sum_up(words, side);
 }
