@@ -334,22 +334,38 @@ fn cut_0_clears_unmarked_cells_and_spare_lanes() {
 /// smaller aim in front, and distribute in the same places backwards.
 #[test]
 fn every_state_of_every_frame_of_side_2() {
+    let board = Board { side: 2 };
     for choice in 0..1u32 << 16 {
         let marked: Vec<usize> = (0..16).filter(|cell| choice >> cell & 1 == 1).collect();
-        let there = ranked(2, &marked);
-        let back = aimed(2, &marked);
-        for cut in 0..=9 {
-            let (mut front, mut spare) = (there.front.clone(), there.spare.clone());
-            records::cut(Operation::Concentrate, 2, &mut front, &mut spare, cut);
-            let (mut back_front, mut back_spare) = (back.front.clone(), back.spare.clone());
-            records::cut(Operation::Distribute, 2, &mut back_front, &mut back_spare, 9 - cut);
+        let there = records::states(Operation::Concentrate, board, &ranked(2, &marked).front);
+        let back = records::states(Operation::Distribute, board, &aimed(2, &marked).front);
+        for ((front, spare), (back_front, back_spare)) in there.iter().zip(back.iter().rev()) {
             assert_eq!((&front.words, &front.marks), (&back_front.words, &back_front.marks));
             assert_eq!((&spare.words, &spare.marks), (&back_spare.words, &back_spare.marks));
             let held: u32 = front.marks.iter().chain(&spare.marks).map(|&mark| mark as u32).sum();
             assert_eq!(held, choice.count_ones());
-            for cell in (0..16).filter(|&cell| spare.marks[cell] == 1) {
-                assert!(front.marks[cell] == 1 && front.aims[cell] < spare.aims[cell]);
-            }
+            assert!((0..16).all(|cell| in_order(front, spare, cell) && in_order(back_front, back_spare, cell)));
+        }
+    }
+}
+
+/// A spare record has one of a smaller aim in front of it.
+fn in_order(front: &Lanes, spare: &Lanes, cell: usize) -> bool {
+    spare.marks[cell] == 0 || (front.marks[cell] == 1 && front.aims[cell] < spare.aims[cell])
+}
+
+#[test]
+fn a_cut_run_leaves_the_state_at_its_cut() {
+    for (operation, lent) in
+        [(Operation::Concentrate, ranked(3, &[5, 8, 9, 40, 41, 44])), (Operation::Distribute, aimed(3, &[5, 8, 9, 40, 80]))]
+    {
+        let states = records::states(operation, Board { side: 3 }, &lent.front);
+        assert_eq!(states.len(), 17);
+        for (cut, (front, spare)) in states.iter().enumerate() {
+            let (mut cut_front, mut cut_spare) = (lent.front.clone(), lent.spare.clone());
+            let answer = records::cut(operation, 3, &mut cut_front, &mut cut_spare, cut);
+            assert_eq!((answer.number, answer.electronic + answer.swaps), (0, cut));
+            assert_eq!((&cut_front, &cut_spare), (front, spare));
         }
     }
 }

@@ -170,12 +170,8 @@ fn states_printed(operation: Operation, job: &Job) -> String {
         Operation::Distribute => to_distribute(job),
     };
     let mut text = String::new();
-    for cut in 0..=moves::concentrate(job.board).len() {
-        let mut front = start.clone();
-        let mut spare = Lanes::empty(job.board.cells());
-        let answer = records::cut(operation, job.board.side, &mut front, &mut spare, cut);
-        assert_eq!(answer.number, 0);
-        text += &state_printed(cut, &front, &spare);
+    for (cut, (front, spare)) in records::states(operation, job.board, &start).iter().enumerate() {
+        text += &state_printed(cut, front, spare);
     }
     text
 }

@@ -94,6 +94,17 @@ pub fn cut(operation: Operation, side: usize, front: &mut Lanes, spare: &mut Lan
     }
 }
 
+/// The front and spare lanes at every cut, 0 to all, of a run that nothing refuses.
+pub fn states(operation: Operation, board: Board, front: &Lanes) -> Vec<(Lanes, Lanes)> {
+    let run = run(operation, board, front);
+    let state = |cut| {
+        let (mut front, mut spare) = (Lanes::empty(board.cells()), Lanes::empty(board.cells()));
+        run.lay(cut, &mut front, &mut spare);
+        (front, spare)
+    };
+    (0..=run.moves.len()).map(state).collect()
+}
+
 fn finish(run: Run, lent: &mut Lent) -> Answer {
     run.lay(run.moves.len(), &mut lent.front, &mut lent.spare);
     write_codes(&run.moves, &mut lent.codes);
