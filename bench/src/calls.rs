@@ -67,12 +67,8 @@ pub struct Callee {
 pub const ARCHIVE: Callee =
     Callee { name: "archive", rank: otis_rank, concentrate: otis_concentrate, distribute: otis_distribute };
 
-pub const STEPPER: Callee = Callee {
-    name: "C stepper",
-    rank: stepper_rank,
-    concentrate: stepper_concentrate,
-    distribute: stepper_distribute,
-};
+pub const STEPPER: Callee =
+    Callee { name: "C stepper", rank: stepper_rank, concentrate: stepper_concentrate, distribute: stepper_distribute };
 
 pub struct FencedLanes {
     words: Fenced<u32>,

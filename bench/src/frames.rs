@@ -13,7 +13,7 @@ impl Dice {
         Dice { state: seed }
     }
 
-    pub fn next(&mut self) -> u64 {
+    pub fn roll(&mut self) -> u64 {
         self.state = self.state.wrapping_add(0x9E37_79B9_7F4A_7C15);
         let mut mixed = self.state;
         mixed = (mixed ^ (mixed >> 30)).wrapping_mul(0xBF58_476D_1CE4_E5B9);
@@ -22,7 +22,7 @@ impl Dice {
     }
 
     pub fn below(&mut self, bound: usize) -> usize {
-        (self.next() % bound as u64) as usize
+        (self.roll() % bound as u64) as usize
     }
 
     /// True in `times` of `of`.
@@ -35,7 +35,7 @@ impl Dice {
         match self.below(8) {
             0 => 0,
             1 => u32::MAX,
-            _ => self.next() as u32,
+            _ => self.roll() as u32,
         }
     }
 }
@@ -102,17 +102,17 @@ fn at_end(position: usize, length: usize) -> bool {
 pub fn garbage(cells: usize, dice: &mut Dice) -> Lanes {
     Lanes {
         words: (0..cells).map(|_| dice.word()).collect(),
-        marks: (0..cells).map(|_| dice.next() as u8).collect(),
-        aims: (0..cells).map(|_| dice.next() as u16).collect(),
+        marks: (0..cells).map(|_| dice.roll() as u8).collect(),
+        aims: (0..cells).map(|_| dice.roll() as u16).collect(),
     }
 }
 
 pub fn garbage_codes(length: usize, dice: &mut Dice) -> Vec<u8> {
-    (0..length).map(|_| dice.next() as u8).collect()
+    (0..length).map(|_| dice.roll() as u8).collect()
 }
 
 pub fn garbage_counts(length: usize, dice: &mut Dice) -> Vec<u16> {
-    (0..length).map(|_| dice.next() as u16).collect()
+    (0..length).map(|_| dice.roll() as u16).collect()
 }
 
 /// A frame ready to be concentrated: the marked cells aimed at their ranks, garbage in all that nothing may look at.

@@ -269,9 +269,12 @@ fn the_stretch_of_a_group() {
     assert_eq!(words::stretch_answer(9, &lane, 0), refused(1, 0));
 }
 
+/// Makes one thing wrong.
+type Damage = fn(&mut Lent);
+
 #[test]
 fn every_refusal_of_concentrate_changes_nothing() {
-    let damages: [(fn(&mut Lent), Answer); 8] = [
+    let damages: [(Damage, Answer); 8] = [
         (|lent| lent.front.aims.truncate(15), refused(2, 0)),
         (|lent| lent.spare.words.push(0), refused(2, 0)),
         (|lent| lent.codes.truncate(8), refused(3, 0)),
@@ -292,7 +295,7 @@ fn every_refusal_of_concentrate_changes_nothing() {
 
 #[test]
 fn every_refusal_of_distribute_changes_nothing() {
-    let damages: [(fn(&mut Lent), Answer); 7] = [
+    let damages: [(Damage, Answer); 7] = [
         (|lent| lent.front.marks[15] = 255, refused(5, 15)),
         (|lent| lent.front.marks[1] = 0, refused(6, 2)),
         (|lent| lent.front.marks[4] = 1, refused(6, 4)),
@@ -356,9 +359,10 @@ fn in_order(front: &Lanes, spare: &Lanes, cell: usize) -> bool {
 
 #[test]
 fn a_cut_run_leaves_the_state_at_its_cut() {
-    for (operation, lent) in
-        [(Operation::Concentrate, ranked(3, &[5, 8, 9, 40, 41, 44])), (Operation::Distribute, aimed(3, &[5, 8, 9, 40, 80]))]
-    {
+    for (operation, lent) in [
+        (Operation::Concentrate, ranked(3, &[5, 8, 9, 40, 41, 44])),
+        (Operation::Distribute, aimed(3, &[5, 8, 9, 40, 80])),
+    ] {
         let states = records::states(operation, Board { side: 3 }, &lent.front);
         assert_eq!(states.len(), 17);
         for (cut, (front, spare)) in states.iter().enumerate() {

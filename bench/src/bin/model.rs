@@ -97,9 +97,9 @@ fn frame_runs(board: Board, name: &str) -> String {
     text
 }
 
-/// The corners, and one cell between that is in no corner of its group or of the board.
+/// The first and the last cell, the end of the first group, and one between, at sides 3 and 4 in no corner of its group.
 fn broadcast_cells(board: Board) -> Vec<usize> {
-    let mut cells = vec![0, board.places() - 1, board.cells() / 2, board.cells() - 1];
+    let mut cells = vec![0, board.places() - 1, board.cells() * 11 / 17, board.cells() - 1];
     cells.sort_unstable();
     cells.dedup();
     cells

@@ -38,7 +38,9 @@ struct Times {
 
 fn main() {
     println!("One call in nanoseconds, median of {ROUNDS} rounds, archive and C stepper (gcc -O3) by turns.");
-    println!("Lanes filled anew before each call, spare lanes full of garbage. sparse: 1 cell in 24 marked; half: 1 in 2.");
+    println!(
+        "Lanes filled anew before each call, spare lanes full of garbage. sparse: 1 cell in 24 marked; half: 1 in 2."
+    );
     println!("\n| operation | side | frame | archive | C stepper | ratio |\n|---|--:|---|--:|--:|--:|");
     for (name, task) in TASKS {
         for side in [2, 4, 8] {
@@ -58,7 +60,9 @@ fn print_row(head: &str, times: &Times) {
 /// If the time for a cell and move stays level, the time grows as cells times moves, and with nothing else.
 fn print_growth() {
     println!("\nHow time grows with the side: concentrate, half of the cells marked.\n");
-    println!("| side | cells | moves | archive | C stepper | archive for a cell and move | C stepper for a cell and move |");
+    println!(
+        "| side | cells | moves | archive | C stepper | archive for a cell and move | C stepper for a cell and move |"
+    );
     println!("|--:|--:|--:|--:|--:|--:|--:|");
     for side in 1..=8 {
         let board = Board { side };

@@ -40,7 +40,7 @@ pub fn parse(input: &[u8]) -> Judged<Job> {
     let mut marked: Vec<(usize, u32)> = Vec::new();
     while !lines.rest.is_empty() {
         let (cell, word) = lines.next_line().and_then(cell_line).ok_or(lines.bad())?;
-        let rises = marked.last().map_or(true, |&(before, _)| cell > before);
+        let rises = marked.last().is_none_or(|&(before, _)| cell > before);
         if cell >= board.cells() || !rises {
             return Err(lines.bad());
         }

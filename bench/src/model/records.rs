@@ -243,7 +243,7 @@ fn judge_aims(board: Board, front: &Lanes) -> Judged<()> {
     let mut aim_before = None;
     for (cell, &mark) in front.marks.iter().enumerate() {
         let aim = front.aims[cell] as usize;
-        let rises = aim_before.map_or(true, |before| aim > before);
+        let rises = aim_before.is_none_or(|before| aim > before);
         if mark == 1 && (unmarked_before || aim >= board.cells() || !rises) {
             return refuse(6, cell);
         }

@@ -7,9 +7,7 @@ use super::moves::{self, Edge, Line, Move};
 
 /// Every word becomes that of one cell.
 pub fn broadcast(side: usize, words: &mut [u32], codes: &mut [u8], cell: usize) -> Answer {
-    let judged = judge_words(side, words, codes, |board| {
-        (cell < board.cells()).then(|| moves::broadcast(board, cell))
-    });
+    let judged = judge_words(side, words, codes, |board| (cell < board.cells()).then(|| moves::broadcast(board, cell)));
     finish(judged, codes, |_| words.fill(words[cell]))
 }
 
@@ -128,12 +126,8 @@ fn finish(judged: Judged<(Board, Vec<Move>)>, codes: &mut [u8], act: impl FnOnce
 fn shifted(board: Board, line: Line, edge: Edge, by: i32, cell: usize) -> Option<usize> {
     let (group, place) = (board.group(cell), board.place(cell));
     match line {
-        Line::MeshRow | Line::MeshColumn => {
-            slid(board, line, edge, by, place).map(|place| board.cell(group, place))
-        }
-        Line::GroupRow | Line::GroupColumn => {
-            slid(board, line, edge, by, group).map(|group| board.cell(group, place))
-        }
+        Line::MeshRow | Line::MeshColumn => slid(board, line, edge, by, place).map(|place| board.cell(group, place)),
+        Line::GroupRow | Line::GroupColumn => slid(board, line, edge, by, group).map(|group| board.cell(group, place)),
     }
 }
 
