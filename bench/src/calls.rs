@@ -89,13 +89,22 @@ impl FencedLanes {
         self.words.whole() && self.marks.whole() && self.aims.whole()
     }
 
-    fn holds(&self, lanes: &Lanes) -> bool {
-        holds(&self.words, &lanes.words) && holds(&self.marks, &lanes.marks) && holds(&self.aims, &lanes.aims)
+    fn difference(&self, slot: &str, wanted: &Lanes) -> Option<String> {
+        difference("words", &self.words, &wanted.words)
+            .or_else(|| difference("marks", &self.marks, &wanted.marks))
+            .or_else(|| difference("aims", &self.aims, &wanted.aims))
+            .map(|told| format!("{slot} {told}"))
     }
 }
 
-fn holds<T: Post>(fenced: &Fenced<T>, wanted: &[T]) -> bool {
-    fenced.inside() == wanted
+/// The first entry that is not as wanted, told for a reader.
+fn difference<T: Post>(name: &str, fenced: &Fenced<T>, wanted: &[T]) -> Option<String> {
+    let inside = fenced.inside();
+    if inside == wanted {
+        return None;
+    }
+    let at = (0..wanted.len()).find(|&at| inside[at] != wanted[at])?;
+    Some(format!("{name}: entry {at} is {:?}, not {:?}", inside[at], wanted[at]))
 }
 
 /// What is lent to concentrate or distribute, each part between fences.
@@ -120,11 +129,13 @@ impl FencedLent {
         self.front.whole() && self.spare.whole() && self.codes.whole() && self.moved.whole()
     }
 
-    pub fn holds(&self, lent: &Lent) -> bool {
-        self.front.holds(&lent.front)
-            && self.spare.holds(&lent.spare)
-            && holds(&self.codes, &lent.codes)
-            && holds(&self.moved, &lent.moved)
+    /// The first entry that is not as wanted.
+    pub fn difference(&self, wanted: &Lent) -> Option<String> {
+        self.front
+            .difference("front", &wanted.front)
+            .or_else(|| self.spare.difference("spare", &wanted.spare))
+            .or_else(|| difference("codes", &self.codes, &wanted.codes))
+            .or_else(|| difference("moved", &self.moved, &wanted.moved))
     }
 }
 
@@ -144,8 +155,11 @@ impl FencedRank {
         self.marks.whole() && self.aims.whole() && self.codes.whole()
     }
 
-    pub fn holds(&self, marks: &[u8], aims: &[u16], codes: &[u8]) -> bool {
-        holds(&self.marks, marks) && holds(&self.aims, aims) && holds(&self.codes, codes)
+    /// The first entry that is not as wanted.
+    pub fn difference(&self, marks: &[u8], aims: &[u16], codes: &[u8]) -> Option<String> {
+        difference("marks", &self.marks, marks)
+            .or_else(|| difference("aims", &self.aims, aims))
+            .or_else(|| difference("codes", &self.codes, codes))
     }
 }
 

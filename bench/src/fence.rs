@@ -1,9 +1,11 @@
 //! A lane or a log between two fences, to see that nothing outside it is touched.
 
+use std::fmt::Debug;
+
 const FENCE: usize = 16;
 
 /// Numbers that can stand in a fence.
-pub trait Post: Copy + PartialEq {
+pub trait Post: Copy + PartialEq + Debug {
     const POST: Self;
 }
 

@@ -73,11 +73,11 @@ fn check_rank(tally: &mut Tally, what: &str, side: usize, marks: &[u8], aims: &[
     for callee in CALLEES {
         let mut lent = FencedRank::new(marks, aims, codes);
         let answer = callee.rank(side, &mut lent);
-        let same = lent.holds(marks, &wanted_aims, &wanted_codes);
-        let good = answer == wanted && same && lent.whole();
+        let difference = lent.difference(marks, &wanted_aims, &wanted_codes);
+        let good = answer == wanted && difference.is_none() && lent.whole();
         tally.count(good, || {
             let case = format!("{} rank, {what}, side {side}, marks {}", callee.name, shown(marks));
-            told(&case, answer, wanted, same, lent.whole())
+            told(&case, answer, wanted, &difference, lent.whole())
         });
     }
 }
@@ -89,12 +89,12 @@ fn check_run(tally: &mut Tally, what: &str, operation: Operation, side: usize, s
     for callee in CALLEES {
         let mut lent = FencedLent::new(start);
         let answer = callee.run(operation, side, &mut lent);
-        let same = lent.holds(&left);
-        let good = answer == wanted && same && lent.whole();
+        let difference = lent.difference(&left);
+        let good = answer == wanted && difference.is_none() && lent.whole();
         tally.count(good, || {
             let marks = shown(&start.front.marks);
             let case = format!("{} {operation:?}, {what}, side {side}, marks {marks}", callee.name);
-            told(&case, answer, wanted, same, lent.whole())
+            told(&case, answer, wanted, &difference, lent.whole())
         });
     }
     left
@@ -107,10 +107,10 @@ fn check_all(tally: &mut Tally, what: &str, side: usize, lent: &Lent) {
     }
 }
 
-fn told(case: &str, answer: Answer, wanted: Answer, same: bool, whole: bool) -> String {
-    let lanes = if same { "lanes and logs as wanted" } else { "LANES OR LOGS DIFFER" };
+fn told(case: &str, answer: Answer, wanted: Answer, difference: &Option<String>, whole: bool) -> String {
+    let lanes = difference.as_deref().unwrap_or("lanes and logs as wanted");
     let fences = if whole { "fences whole" } else { "FENCES BROKEN" };
-    format!("{case}\n  answer {answer:?}\n  wanted {wanted:?}\n  {lanes}, {fences}")
+    format!("{case}\n  answer {answer:?}\n  wanted {wanted:?}\n  {lanes}; {fences}")
 }
 
 /// The cells that are not 0, so that a failure can be made again by hand.
