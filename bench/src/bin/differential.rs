@@ -1,5 +1,6 @@
 //! Compares the archive, and the C stepper that it is measured against, with the second model: the answer, every lane and
 //! every log after the call, and the fences around them. The last line counts the comparisons.
+//! With the word `--first` it stops at the first failure.
 
 use otis_bench::calls::{Callee, FencedLent, FencedRank, ARCHIVE, STEPPER};
 use otis_bench::frames::{self, Dice, Kind, KINDS};
@@ -25,6 +26,7 @@ const TOLD: usize = 20;
 
 struct Tally {
     dice: Dice,
+    first: bool,
     passed: usize,
     failed: usize,
 }
@@ -39,6 +41,10 @@ impl Tally {
         if self.failed <= TOLD {
             println!("FAILED: {}", tell());
         }
+        if self.first {
+            println!("{} passed, 1 failed", self.passed);
+            std::process::exit(1);
+        }
     }
 
     /// Runs one part, and says how many comparisons it made.
@@ -51,7 +57,8 @@ impl Tally {
 
 fn main() -> ExitCode {
     println!("seed {SEED:#x}; each case once for each of: {}, {}", CALLEES[0].name, CALLEES[1].name);
-    let mut tally = Tally { dice: Dice::new(SEED), passed: 0, failed: 0 };
+    let first = std::env::args().any(|word| word == "--first");
+    let mut tally = Tally { dice: Dice::new(SEED), first, passed: 0, failed: 0 };
     tally.part("every choice of marks at side 2, ranked, concentrated, distributed back", every_choice);
     tally.part("one cell marked, and two across every group end, sides 1 to 4", ones_and_twos);
     tally.part("frames of every kind, sides 1 to 8", every_kind);
