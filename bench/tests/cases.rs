@@ -1,5 +1,6 @@
 //! The bench cases of document 01, starred and not, on the second model; and the sentences around them that can be run.
 
+use otis_bench::frames::{self, Dice, KINDS};
 use otis_bench::model::answers::Answer;
 use otis_bench::model::board::Board;
 use otis_bench::model::job;
@@ -355,6 +356,50 @@ fn every_state_of_every_frame_of_side_2() {
 /// A spare record has one of a smaller aim in front of it.
 fn in_order(front: &Lanes, spare: &Lanes, cell: usize) -> bool {
     spare.marks[cell] == 0 || (front.marks[cell] == 1 && front.aims[cell] < spare.aims[cell])
+}
+
+/// Frames of every kind at every side: nothing lost, a swap finds every record by itself, and no move takes two records from
+/// one cell. The C stepper relies on both.
+#[test]
+fn every_state_of_frames_of_every_kind() {
+    let dice = &mut Dice::new(1);
+    for board in (1..=8).map(|side| Board { side }) {
+        for kind in KINDS {
+            let marked = frames::marks(board, kind, dice);
+            let start = frames::to_concentrate(board, &marked, 0, dice).front;
+            check_states(board, &records::states(Operation::Concentrate, board, &start));
+            let start = frames::to_distribute(board, &marked, 0, dice).front;
+            let mut back = records::states(Operation::Distribute, board, &start);
+            back.reverse();
+            check_states(board, &back);
+        }
+    }
+}
+
+fn check_states(board: Board, states: &[(Lanes, Lanes)]) {
+    let moves = moves::concentrate(board);
+    let count = |lanes: &Lanes| lanes.marks.iter().filter(|&&mark| mark == 1).count();
+    let all = count(&states[0].0);
+    for (cut, (front, spare)) in states.iter().enumerate() {
+        assert_eq!(count(front) + count(spare), all);
+        assert!((0..board.cells()).all(|cell| in_order(front, spare, cell)));
+        let alone = cut == moves.len() || moves[cut] == SWAP;
+        assert!(!alone || count(spare) == 0);
+    }
+    for (before, after) in states.iter().zip(&states[1..]) {
+        assert!((0..board.cells()).all(|cell| someone_stays(before, after, cell)));
+        assert!((0..board.cells()).all(|cell| someone_stays(after, before, cell)));
+    }
+    assert!(states[moves.len()].0.marks[..all].iter().all(|&mark| mark == 1));
+}
+
+/// Whether a cell that holds two records still holds one of them after the move, there or back. Aims tell records apart.
+fn someone_stays(before: &(Lanes, Lanes), after: &(Lanes, Lanes), cell: usize) -> bool {
+    let stays = |aim: u16| {
+        let slots = [&after.0, &after.1];
+        slots.iter().any(|lanes| lanes.marks[cell] == 1 && lanes.aims[cell] == aim)
+    };
+    before.1.marks[cell] == 0 || stays(before.0.aims[cell]) || stays(before.1.aims[cell])
 }
 
 #[test]
