@@ -1,6 +1,8 @@
 pub mod Adding
+pub mod Answering
 pub mod Composing
 pub mod Coordinates
+pub mod Entering
 pub mod Lines
 pub mod Shifting
 pub mod Spreading

@@ -1,3 +1,4 @@
+pub mod Entries
 pub mod Inside
 pub mod Machine
 pub mod Programs
