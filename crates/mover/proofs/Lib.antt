@@ -1,0 +1,7 @@
+pub mod Digits
+pub mod Groups
+pub mod Parts
+pub mod Sending
+pub mod Slots
+pub mod Stepping
+pub mod Sweep

@@ -1,0 +1,6 @@
+pub mod Cells
+pub mod Digits
+pub mod Mesh
+pub mod Moved
+pub mod Runs
+pub mod Showing
