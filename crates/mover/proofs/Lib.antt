@@ -1,7 +1,2 @@
-pub mod Digits
-pub mod Groups
-pub mod Parts
-pub mod Sending
-pub mod Slots
-pub mod Stepping
-pub mod Sweep
+pub mod Running
+pub mod Swapping

@@ -1,6 +1,2 @@
-pub mod Cells
-pub mod Digits
-pub mod Mesh
-pub mod Moved
 pub mod Runs
-pub mod Showing
+pub mod Swaps

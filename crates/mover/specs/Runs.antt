@@ -15,10 +15,10 @@ use Rattle.array.specs.Cells.{cells, partner}
 use Rattle.array.specs.Lists.{concentrateRuns, distributeRuns}
 use Rattle.travel.specs.declared.turns.Turn.{Turn}
 use Rattle.travel.specs.Turns.{turnAt}
-use Rattle.mover.specs.declared.cells.Cell.{Cell}
-use Rattle.mover.specs.declared.mesh.Rule.{Rule}
-use Rattle.mover.specs.Cells.{countOf, marksIn}
-use Rattle.mover.specs.Mesh.{goerOf, movedOf}
+use Rattle.mesh.specs.declared.cells.Cell.{Cell}
+use Rattle.mesh.specs.declared.moving.Rule.{Rule}
+use Rattle.mesh.specs.Cells.{countOf, marksIn}
+use Rattle.mesh.specs.Mesh.{goerOf, movedOf}
 
 -- the list of concentrate, or of distribute, which goes back
 abbrev pub runsOf : Bool → ℕ → List Run
@@ -57,6 +57,11 @@ after back s (suc k) T i = madeOn back s k (after back s k T) i
 -- how many records each of the first n moves takes to another cell
 abbrev pub movedLog : Bool → ℕ → ℕ → (ℕ → Cell) → List ℕ
 movedLog back s n T = entries (λ k. goneOn back s k (after back s k T)) 0 n
+
+-- one move was made
+pub record Made (back : Bool) (s : ℕ) (x : Turn) (T T′ : ℕ → Cell) (r : ℕ) : Type 0 where
+  pub made : (i : ℕ) → i < cells s → T′ i ≡ madeBy back s x (x .step) T i
+  pub count : r ≡ goneBy back s x (x .step) T
 
 -- the first n moves were made, where the lanes are those of a board, and nothing was done else
 pub record Ran (lanes back : Bool) (s n : ℕ) (T T′ : ℕ → Cell) (moved moved′ : List ℕ) : Type 0 where

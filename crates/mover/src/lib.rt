@@ -1,3 +1,3 @@
-// The mover: what a cell holds, one electronic move inside the groups, the swap of all lanes, and the moves of a list up to a cut.
-pub mod cells;
-pub mod mesh;
+// The mover: the swap of all lanes, and the moves of concentrate's list or of distribute's, made one after the other up to a cut.
+pub mod runs;
+pub mod swaps;
