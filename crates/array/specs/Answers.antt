@@ -1,6 +1,6 @@
 -- What an entry answers: the first of its cases that applies, or that it was accepted.
 use Prim.Native.Nat.{ℕ, _%_, _^_}
-use mathlib.Core.Bool.{Bool, true, false, cond, not}
+use mathlib.Core.Bool.{cond, not}
 use mathlib.Core.List.{List, [], _∷_}
 use lib.Dec.{ltb, eqb}
 use lib.ListN.{length}
@@ -24,6 +24,10 @@ refusing c otherwise = cond (c .applies) (refused (c .number) (c .place)) otherw
 abbrev pub verdict : List Case → Answer → Answer
 verdict [] otherwise = otherwise
 verdict (c ∷ cs) otherwise = refusing c (verdict cs otherwise)
+
+-- what an entry leaves where its answer accepts, and where it refuses
+abbrev pub whereAccepted : {A : Type 0} → Answer → A → A → A
+whereAccepted a new old = cond (eqb (a .number) 0) new old
 
 -- 1: the side is not 1 to 8
 abbrev pub sideCase : ℕ → Case

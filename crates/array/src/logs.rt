@@ -2,15 +2,19 @@
 use crate::answers::Answer;
 use crate::answers::Case;
 use crate::answers::accepted;
+use crate::answers::lane_case;
+use crate::answers::refusing;
+use crate::answers::side_case;
 use crate::moves::Move;
 use crate::moves::Run;
 use crate::moves::code;
 use crate::moves::electronic_in;
 use crate::moves::swaps_in;
 ghost use mathlib.Core.Path.{_≡_};
+ghost use mathlib.Core.List.{[], _∷_};
 ghost use lib.Seq.{sets};
 ghost use Rattle.array.specs.Moves.{moves, codes as codesOf, stepIn, isStep};
-ghost use Rattle.array.specs.Answers.{logCase, acceptedBy};
+ghost use Rattle.array.specs.Answers.{verdict, sideCase, laneCase, logCase, acceptedBy};
 
 // Move k of a list, or that the list is shorter.
 pub enum Found {
@@ -84,4 +88,13 @@ pub fn accepted_by(runs: [Run; 9]) -> Answer
         q += 1;
     }
     accepted(electronic, swaps)
+}
+
+// The cases that every entry with a log shares, in their order: the side, the lane's length, the log's length.
+pub fn checked(side: usize, lane: usize, runs: [Run; 9], log: usize, otherwise: Answer) -> Answer
+    ensures { λ r. ⌜ r ≡ verdict (sideCase side ∷ laneCase side lane ∷ logCase runs log ∷ []) otherwise ⌝ }
+{
+    let room = refusing(log_case(runs, log), otherwise);
+    let sized = refusing(lane_case(side, lane), room);
+    refusing(side_case(side), sized)
 }

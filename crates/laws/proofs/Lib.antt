@@ -2,6 +2,7 @@ pub mod Bools
 pub mod Deciding
 pub mod Filling
 pub mod Numbers
+pub mod Reversed
 pub mod Setting
 pub mod Stores
 pub mod Sums
