@@ -1,4 +1,5 @@
 pub mod Aims
+pub mod Demand3
 pub mod Judged
 pub mod Marked
 pub mod Performing

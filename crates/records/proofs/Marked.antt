@@ -25,7 +25,7 @@ use Rattle.records.proofs.Aims.{Ranked, Aimed}
 
 module _ (marks : List ℕ) where
   -- ranks rise over marked cells
-  rank-past : (i j : ℕ) → i < j → getD marks i 0 ≡ 1 → rankIn marks i < rankIn marks j
+  pub rank-past : (i j : ℕ) → i < j → getD marks i 0 ≡ 1 → rankIn marks i < rankIn marks j
   rank-past i j l e =
       let d : suc i + (j - suc i) ≡ j = omega arith in
       omega (arith, rw d at (sum-add (suc i) (j - suc i) (λ k. getD marks k 0)))
