@@ -3,8 +3,6 @@ use lib.ListN.{List·getD-eq-default}
 use borrow.Author.Needs.{needs}
 use Rattle.clearing.proofs.mark_at.Statement.{statement}
 use Rattle.clearing.proofs.mark_at.Tie as tie
-use Rattle.clearing.proofs.mark_at.Reads as reads
-use Rattle.clearing.proofs.mark_at.Lts as lts
 
 shared-slice-read-result : tie.Need-shared-slice-read-result
 shared-slice-read-result c = search needs

@@ -3,9 +3,6 @@ use Rattle.mesh.specs.Cells.{joined}
 use borrow.Author.Needs.{needs}
 use Rattle.mesh.proofs.cells.joined.Statement.{statement}
 use Rattle.mesh.proofs.cells.joined.Tie as tie
-use Rattle.mesh.proofs.cells.joined.Reads as reads
-use Rattle.mesh.proofs.cells.joined.Lts as lts
-use Rattle.mesh.proofs.cells.nothing.Reads as nothing-reads
 
 returns : tie.Need-returns
 unfolding joined

@@ -1,8 +1,6 @@
 use borrow.Author.Needs.{needs}
 use Rattle.mesh.proofs.moving.coordinate.Statement.{statement}
 use Rattle.mesh.proofs.moving.coordinate.Tie as tie
-use Rattle.mesh.proofs.moving.coordinate.Reads as reads
-use Rattle.mesh.proofs.moving.coordinate.Lts as lts
 
 enum-told : tie.Need-enum-told
 enum-told c = search needs

@@ -5,9 +5,6 @@ use Rattle.array.proofs.Board.{side-known}
 use borrow.Author.Needs.{needs}
 use Rattle.mesh.proofs.moving.scale.Statement.{statement}
 use Rattle.mesh.proofs.moving.scale.Tie as tie
-use Rattle.mesh.proofs.moving.scale.Reads as reads
-use Rattle.mesh.proofs.moving.scale.Lts as lts
-use Rattle.mesh.proofs.moving.unit.Reads as unit-reads
 
 unit-requires : tie.Need-unit-requires
 unit-requires c κs = search needs

@@ -3,8 +3,6 @@ use mathlib.Core.Path.{sym}
 use borrow.Author.Needs.{needs}
 use Rattle.mover.proofs.runs.log_count.Statement.{statement}
 use Rattle.mover.proofs.runs.log_count.Tie as tie
-use Rattle.mover.proofs.runs.log_count.Reads as reads
-use Rattle.mover.proofs.runs.log_count.Lts as lts
 
 cast-log : tie.Need-cast-log
 cast-log c = search needs
