@@ -1,0 +1,11 @@
+pub mod Adding
+pub mod Answering
+pub mod Composing
+pub mod Coordinates
+pub mod Entering
+pub mod Lines
+pub mod Shifting
+pub mod Spreading
+pub mod Stepping
+pub mod Sweeping
+pub mod Views

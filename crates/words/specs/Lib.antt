@@ -1,0 +1,5 @@
+pub mod Entries
+pub mod Inside
+pub mod Machine
+pub mod Programs
+pub mod Results

@@ -1,0 +1,110 @@
+// The operations that use words only: broadcast, data sum, prefix sum and the eight shifts, and a group's own stretch of words.
+mod answers;
+mod lanes;
+mod slides;
+mod spreads;
+mod steps;
+pub mod sums;
+
+use crate::answers::broadcast_answer;
+use crate::answers::data_sum_answer;
+use crate::answers::group_answer;
+use crate::answers::prefix_sum_answer;
+use crate::answers::shift_answer;
+use crate::slides::shift_all;
+use crate::spreads::spread_all;
+use crate::sums::sum_all;
+use crate::sums::sum_up;
+use array::answers::Answer;
+use array::lists::broadcast_runs;
+use array::lists::data_sum_runs;
+use array::lists::prefix_sum_runs;
+use array::logs::write_codes;
+use array::shifts::Axis;
+use array::shifts::Edge;
+use array::shifts::shift_runs;
+ghost use mathlib.Core.Path.{_≡_};
+ghost use lib.ListN.{length};
+ghost use Rattle.words.specs.Entries.{Broadcast, DataSum, PrefixSum, Shift, groupAnswer, groupWords};
+
+// Every word becomes that of a cell.
+pub fn broadcast(side: usize, cell: usize, words: &mut [u32], codes: &mut [u8]) -> Answer
+    ensures { λ r. ⌜ Broadcast side cell (now (words .entry)) (now (codes .entry)) r (now (words .exit)) (now (codes .exit)) ⌝ }
+{
+    let answer = broadcast_answer(side, cell, words.len(), codes.len());
+    if answer.number != 0 {
+        return answer;
+    }
+    spread_all(words, side, cell);
+    write_codes(broadcast_runs(side, cell), codes, 0);
+    answer
+}
+
+// Every word becomes the sum of all, modulo 2^32.
+pub fn data_sum(side: usize, words: &mut [u32], codes: &mut [u8]) -> Answer
+    ensures { λ r. ⌜ DataSum side (now (words .entry)) (now (codes .entry)) r (now (words .exit)) (now (codes .exit)) ⌝ }
+{
+    let answer = data_sum_answer(side, words.len(), codes.len());
+    if answer.number != 0 {
+        return answer;
+    }
+    sum_all(words, side);
+    write_codes(data_sum_runs(side), codes, 0);
+    answer
+}
+
+// Every word becomes the sum of the words up to it, modulo 2^32.
+pub fn prefix_sum(side: usize, words: &mut [u32], codes: &mut [u8]) -> Answer
+    ensures { λ r. ⌜ PrefixSum side (now (words .entry)) (now (codes .entry)) r (now (words .exit)) (now (codes .exit)) ⌝ }
+{
+    let answer = prefix_sum_answer(side, words.len(), codes.len());
+    if answer.number != 0 {
+        return answer;
+    }
+    sum_up(words, side);
+    write_codes(prefix_sum_runs(side), codes, 0);
+    answer
+}
+
+// Every word moves by k along its row or column, of the mesh or of the groups.
+pub fn shift(
+    side: usize,
+    axis: Axis,
+    edge: Edge,
+    k: i32,
+    words: &mut [u32],
+    codes: &mut [u8],
+) -> Answer
+    ensures { λ r. ⌜ Shift side axis edge k (now (words .entry)) (now (codes .entry)) r (now (words .exit)) (now (codes .exit)) ⌝ }
+{
+    let answer = shift_answer(side, axis, edge, k, words.len(), codes.len());
+    if answer.number != 0 {
+        return answer;
+    }
+    let runs = shift_runs(side, axis, edge, k);
+    let forth = runs[1];
+    let home = runs[2];
+    shift_all(words, side, axis, edge, forth.times, home.times);
+    write_codes(runs, codes, 0);
+    answer
+}
+
+// The caller's own stretch of words of a group, or an empty one where that is refused.
+pub fn group_words(side: usize, group: usize, words: &mut [u32]) -> &mut [u32]
+    ensures { λ r. ⌜ now r ≡ groupWords side group (now (words .entry)) ⌝ }
+{
+    let answer = group_answer(side, group, words.len());
+    if answer.number != 0 {
+        return &mut words[..0];
+    }
+    let n = side * side;
+    let start = group * n;
+    &mut words[start..start + n]
+}
+
+// The number and the place of the same.
+pub fn group_words_answer(side: usize, group: usize, words: &[u32]) -> Answer
+    ensures { λ r. ⌜ r ≡ groupAnswer side group (length (now (words .entry))) ⌝ }
+{
+    group_answer(side, group, words.len())
+}
