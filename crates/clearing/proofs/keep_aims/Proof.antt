@@ -1,3 +1,4 @@
+-- `clearing::keep_aims` meets its contract: the same law for aims.
 use Prim.Native.Nat.{_-_, _≤_}
 use mathlib.Core.Path.{sym, _∙_}
 use mathlib.Core.Logic.{⊎-elim}

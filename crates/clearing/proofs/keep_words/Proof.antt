@@ -1,3 +1,4 @@
+-- `clearing::keep_words` meets its contract: cell after cell, by its mark.
 use Prim.Native.Nat.{_-_, _≤_}
 use mathlib.Core.Path.{sym, _∙_}
 use mathlib.Core.Logic.{⊎-elim}

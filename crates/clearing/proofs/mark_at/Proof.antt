@@ -1,3 +1,4 @@
+-- `clearing::mark_at` meets its contract: past the end there is no mark.
 use mathlib.Core.Path.{sym}
 use lib.ListN.{List·getD-eq-default}
 use borrow.Author.Needs.{needs}

@@ -1,3 +1,4 @@
+-- `clearing::zero_aims` meets its contract: the same law for aims.
 use Prim.Native.Nat.{ℕ, _-_, _≤_}
 use mathlib.Core.Path.{refl}
 use native.Mathlib.Omega.{arith}

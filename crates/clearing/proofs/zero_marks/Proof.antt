@@ -1,3 +1,4 @@
+-- `clearing::zero_marks` meets its contract: the same law for marks.
 use Prim.Native.Nat.{ℕ, _-_, _≤_}
 use mathlib.Core.Path.{refl}
 use native.Mathlib.Omega.{arith}

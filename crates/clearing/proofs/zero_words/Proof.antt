@@ -1,3 +1,4 @@
+-- `clearing::zero_words` meets its contract: cell after cell.
 use Prim.Native.Nat.{ℕ, _-_, _≤_}
 use mathlib.Core.Path.{refl}
 use native.Mathlib.Omega.{arith}

@@ -1,3 +1,4 @@
+-- `light::swap_aims` meets its contract: the same law for aims.
 use Prim.Native.Nat.{_-_}
 use mathlib.Core.Path.{sym, _∙_}
 use mathlib.Core.Logic.{inl, inr, ⊎-elim}

@@ -1,3 +1,4 @@
+-- `light::swap_marks` meets its contract: the same law for marks.
 use Prim.Native.Nat.{_-_}
 use mathlib.Core.Path.{sym, _∙_}
 use mathlib.Core.Logic.{inl, inr, ⊎-elim}

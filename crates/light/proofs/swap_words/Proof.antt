@@ -1,3 +1,4 @@
+-- `light::swap_words` meets its contract: turn after turn each cell trades with its partner where that comes later.
 use Prim.Native.Nat.{_-_}
 use mathlib.Core.Path.{sym, _∙_}
 use mathlib.Core.Logic.{inl, inr, ⊎-elim}

@@ -1,3 +1,4 @@
+-- `mesh::cells::are_lanes` meets its contract: lane after lane, each as long as the board.
 use mathlib.Core.Path.{sym, _∙_}
 use borrow.Author.Tests.{not-true, not-false}
 use borrow.Author.Needs.{needs}

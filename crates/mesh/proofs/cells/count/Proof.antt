@@ -1,3 +1,4 @@
+-- `mesh::cells::count` meets its contract: by the mark.
 use borrow.Author.Tests.{eq-eqb, ne-eqb}
 use Rattle.mesh.proofs.cells.count.Statement.{statement}
 use Rattle.mesh.proofs.cells.count.Tie as tie

@@ -1,3 +1,4 @@
+-- `mesh::cells::joined` meets its contract: by the marks, and of two by the aims.
 use borrow.Author.Tests.{eq-eqb, ne-eqb, lt-ltb, le-ltb}
 use Rattle.mesh.specs.Cells.{joined}
 use borrow.Author.Needs.{needs}

@@ -1,3 +1,4 @@
+-- `mesh::cells::put` meets its contract: two stores in each lane.
 use Rattle.mesh.proofs.Slots.{cells-stored}
 use borrow.Author.Needs.{needs}
 use Rattle.mesh.proofs.cells.put.Statement.{statement}

@@ -1,3 +1,4 @@
+-- `mesh::moving::coordinate` meets its contract: by the way.
 use borrow.Author.Needs.{needs}
 use Rattle.mesh.proofs.moving.coordinate.Statement.{statement}
 use Rattle.mesh.proofs.moving.coordinate.Tie as tie

@@ -1,3 +1,4 @@
+-- `mesh::moving::goes` meets its contract: the distance of the place that a record heads for is that of one digit of its aim.
 use borrow.Author.Tests.{eq-eqb, ne-eqb}
 use Rattle.array.proofs.Board.{side-known}
 use Rattle.mesh.specs.Mesh.{goesIn}

@@ -1,3 +1,4 @@
+-- `mesh::moving::move_all` meets its contract: group after group (Groups).
 use borrow.Author.Needs.{needs}
 use Prim.Native.Nat.{_+_, _-_, _≤_}
 use mathlib.Core.Path.{_≡_, refl, sym, _∙_}

@@ -1,3 +1,4 @@
+-- `mesh::moving::move_group` meets its contract: from the far end back, what is sent on is not met again (Sweep).
 use Prim.Native.Nat.{ℕ, _-_, _≤_}
 use mathlib.Core.Path.{ap, _≡_, _∙_}
 use Rattle.mesh.specs.Digits.{turnOf}

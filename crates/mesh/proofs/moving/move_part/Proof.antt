@@ -1,3 +1,4 @@
+-- `mesh::moving::move_part` meets its contract: a group's own stretch of the lanes, lent and back (Parts).
 use Prim.Native.Nat.{_+_, _-_, _≤_}
 use mathlib.Core.Path.{_≡_}
 use native.Mathlib.Omega.{arith}

@@ -1,3 +1,4 @@
+-- `mesh::moving::onward` meets its contract: by the way.
 use borrow.Author.Needs.{needs}
 use Rattle.mesh.proofs.moving.onward.Statement.{statement}
 use Rattle.mesh.proofs.moving.onward.Tie as tie

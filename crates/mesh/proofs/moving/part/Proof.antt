@@ -1,3 +1,4 @@
+-- `mesh::moving::part` meets its contract: by which of the two records goes.
 use mathlib.Core.Path.{sym, _∙_}
 use Rattle.mesh.specs.Mesh.{goerOf, stayedOf}
 use borrow.Author.Needs.{needs}

@@ -1,3 +1,4 @@
+-- `mesh::moving::scale` meets its contract: by the way.
 use Prim.Native.Nat.{_*_, _≤_}
 use native.Mathlib.Nat.{mul-le-mul, mul-pos}
 use native.Mathlib.Omega.{arith}

@@ -1,3 +1,4 @@
+-- `mesh::moving::send` meets its contract: where nothing leaves nothing is stored; else two cells are, the one that sends and the one that takes.
 use native.Mathlib.Omega.{arith}
 use Rattle.array.proofs.Board.{side-known}
 use Rattle.mesh.proofs.Sending.{apart-by, sent-none, sent-inside, sent-one}

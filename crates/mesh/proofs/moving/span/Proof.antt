@@ -1,3 +1,4 @@
+-- `mesh::moving::span` meets its contract: by the way.
 use borrow.Author.Needs.{needs}
 use Rattle.mesh.proofs.moving.span.Statement.{statement}
 use Rattle.mesh.proofs.moving.span.Tie as tie

@@ -1,3 +1,4 @@
+-- `mesh::moving::turn` meets its contract: by the way.
 use borrow.Author.Needs.{needs}
 use Rattle.mesh.proofs.moving.turn.Statement.{statement}
 use Rattle.mesh.proofs.moving.turn.Tie as tie

@@ -1,3 +1,4 @@
+-- `mesh::moving::unit` meets its contract: by the half that the move is in.
 use native.Mathlib.Omega.{arith}
 use Rattle.array.proofs.Board.{side-known}
 use Rattle.mesh.proofs.moving.unit.Statement.{statement}

@@ -1,3 +1,4 @@
+-- `mover::runs::log_count` meets its contract: a store past the end changes nothing.
 use lib.Seq.{set-out}
 use mathlib.Core.Path.{sym}
 use borrow.Author.Needs.{needs}

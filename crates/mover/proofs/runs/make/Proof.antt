@@ -1,3 +1,4 @@
+-- `mover::runs::make` meets its contract: by what the move is.
 use Rattle.mover.proofs.Running.{made-lanes, lanes-are, made-swap}
 use borrow.Author.Needs.{needs}
 use Rattle.mover.proofs.runs.make.Statement.{statement}

@@ -1,3 +1,4 @@
+-- `mover::runs::rule_of` meets its contract: by the list that is made.
 use borrow.Author.Needs.{needs}
 use Rattle.mover.proofs.runs.rule_of.Statement.{statement}
 use Rattle.mover.proofs.runs.rule_of.Tie as tie

@@ -1,3 +1,4 @@
+-- `mover::runs::run` meets its contract: move after move, with the count of each (Running).
 use Prim.Native.Nat.{_-_}
 use mathlib.Core.Path.{_≡_, refl, sym, ap, _∙_}
 use mathlib.Core.List.{List}

@@ -1,3 +1,4 @@
+-- `mover::swaps::leaves` meets its contract: a cell that is its own partner keeps its records.
 use mathlib.Core.Path.{sym, _∙_, ap₂}
 use Prim.Native.Nat.{_+_}
 use native.Mathlib.Omega.{arith}

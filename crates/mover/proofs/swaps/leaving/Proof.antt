@@ -1,3 +1,4 @@
+-- `mover::swaps::leaving` meets its contract: cell after cell.
 use Prim.Native.Nat.{_-_, _≤_}
 use mathlib.Core.Path.{_≡_}
 use native.Mathlib.Omega.{arith}

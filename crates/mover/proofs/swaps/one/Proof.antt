@@ -1,3 +1,4 @@
+-- `mover::swaps::one` meets its contract: by the mark.
 use native.Mathlib.Omega.{arith}
 use borrow.Author.Tests.{eq-eqb, ne-eqb}
 use Rattle.mover.proofs.swaps.one.Statement.{statement}

@@ -1,3 +1,4 @@
+-- `mover::swaps::swap_all` meets its contract: lane after lane (Swapping).
 use Rattle.mover.proofs.Swapping.{swapped-all}
 use borrow.Author.Needs.{needs}
 use Rattle.mover.proofs.swaps.swap_all.Statement.{statement}

@@ -1,3 +1,4 @@
+-- `records::entries::cut_short` meets its contract: a refusal changes nothing; else the moves are made, with no log.
 use mathlib.Core.Path.{refl}
 use lib.ListN.{length}
 use Rattle.array.specs.Answers.{acceptedBy}

@@ -1,3 +1,4 @@
+-- `records::entries::full` meets its contract: a refusal changes nothing; else the codes are written and the moves made.
 use mathlib.Core.Path.{refl, ap, _∙_}
 use native.Mathlib.Omega.{arith}
 use lib.ListN.{length}

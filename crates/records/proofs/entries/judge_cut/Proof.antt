@@ -1,3 +1,4 @@
+-- `records::entries::judge_cut` meets its contract: the aims are judged once the marks are good (Verdicting).
 use mathlib.Core.Path.{ap, ap₂, _∙_}
 use lib.ListN.{length}
 use Rattle.array.specs.Answers.{refusing, acceptedBy}

@@ -1,3 +1,4 @@
+-- `records::entries::judge_full` meets its contract: the aims are judged once the marks are good (Verdicting).
 use Rattle.records.proofs.Verdicting.{full-halfway, earlyFull, at-once, none-yet, later, full-early, refuse-full}
 use mathlib.Core.Path.{ap, ap₂, _∙_}
 use lib.ListN.{length}

@@ -1,3 +1,4 @@
+-- `records::entries::perform` meets its contract: five lanes are cleared, and the mover takes the records along their course (Performing).
 use Rattle.records.proofs.Performing.{performing}
 use borrow.Author.Needs.{needs}
 use Rattle.records.proofs.entries.perform.Statement.{statement}

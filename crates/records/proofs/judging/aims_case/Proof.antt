@@ -1,3 +1,4 @@
+-- `records::judging::aims_case` meets its contract: cell after cell, with the rank and the aim before it carried along (Judged).
 use Prim.Native.Nat.{_-_, _≤_}
 use mathlib.Core.Path.{_≡_, refl}
 use native.Mathlib.Omega.{arith}

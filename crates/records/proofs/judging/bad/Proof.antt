@@ -1,3 +1,4 @@
+-- `records::judging::bad` meets its contract: by the list that is judged.
 use borrow.Author.Needs.{needs}
 use Rattle.records.proofs.judging.bad.Statement.{statement}
 use Rattle.records.proofs.judging.bad.Tie as tie

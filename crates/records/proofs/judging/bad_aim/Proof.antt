@@ -1,3 +1,4 @@
+-- `records::judging::bad_aim` meets its contract: by the mark, what is before the cell, the aim and the aim before it.
 use mathlib.Core.Path.{_≡_, sym, ap, _∙_}
 use mathlib.Core.Bool.{true, false}
 use native.Mathlib.Omega.{arith}

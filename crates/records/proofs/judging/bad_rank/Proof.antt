@@ -1,3 +1,4 @@
+-- `records::judging::bad_rank` meets its contract: by the mark, and then by the rank.
 use borrow.Author.Tests.{eq-eqb, ne-eqb}
 use borrow.Author.Needs.{needs}
 use Rattle.records.proofs.judging.bad_rank.Statement.{statement}

@@ -1,3 +1,4 @@
+-- `records::judging::cut_case` meets its contract: by the moves of the list.
 use borrow.Author.Needs.{needs}
 use Rattle.records.proofs.judging.cut_case.Statement.{statement}
 use Rattle.records.proofs.judging.cut_case.Tie as tie

@@ -1,3 +1,4 @@
+-- `records::judging::first_runs` meets its contract: run after run, with the moves that are left carried along (Judged).
 use mathlib.Core.Path.{ap}
 use Prim.Native.Nat.{_-_}
 use native.Mathlib.Omega.{arith}

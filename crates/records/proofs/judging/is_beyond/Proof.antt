@@ -1,3 +1,4 @@
+-- `records::judging::is_beyond` meets its contract: only of a side that is built.
 use mathlib.Core.Path.{sym, _∙_}
 use native.Mathlib.Omega.{arith}
 use Rattle.array.proofs.Board.{side-known}

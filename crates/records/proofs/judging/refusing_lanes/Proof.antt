@@ -1,3 +1,4 @@
+-- `records::judging::refusing_lanes` meets its contract: case after case in the order of their numbers.
 use Rattle.array.specs.Answers.{refusing}
 use mathlib.Core.Path.{ap, ap₂, _∙_}
 use Rattle.array.specs.declared.answers.Case.{Case}

@@ -1,3 +1,4 @@
+-- `travel::turns::turn_at` meets its contract: the runs are gone through until the move is among those of one.
 use Prim.Native.Nat.{_+_, _-_, _≤_}
 use mathlib.Core.Path.{_≡_, refl, sym, _∙_}
 use native.Mathlib.Omega.{arith}
