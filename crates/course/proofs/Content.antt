@@ -1,6 +1,6 @@
 -- From cells to records: cells that hold records where they stand hold them where they go, after an electronic move; and how many go.
-use Prim.Native.Nat.{ℕ, zero, suc, _+_, _-_, _*_, _≤_, _<_}
-use mathlib.Core.Path.{_≡_, refl, sym, ap, ap₂, _∙_}
+use Prim.Native.Nat.{ℕ, zero, suc, _-_, _≤_, _<_}
+use mathlib.Core.Path.{_≡_, refl, sym, ap, _∙_}
 use mathlib.Core.Logic.{_⊎_, inl, inr, ⊎-elim}
 use mathlib.Core.Bool.{Bool, true, false, cond}
 use native.Mathlib.Omega.{arith}
@@ -10,13 +10,13 @@ use Rattle.laws.specs.Sums.{sum}
 use Rattle.laws.proofs.Sums.{sum-cong}
 use Rattle.laws.proofs.Totals.{sum-zero, sum-point, sum-swap}
 use Rattle.laws.proofs.Deciding.{apart}
-use Rattle.array.specs.Cells.{groups, cells, place, ahead, onward}
+use Rattle.array.specs.Cells.{ahead, onward}
 use Rattle.array.specs.Moves.{opposite}
 use Rattle.mesh.specs.declared.cells.Rec.{Rec}
 use Rattle.mesh.specs.declared.cells.Cell.{Cell}
 use Rattle.mesh.specs.declared.moving.Rule.{Rule}
-use Rattle.mesh.specs.Cells.{nothing, joined, countOf}
-use Rattle.mesh.specs.Mesh.{goesIn, goerOf, stayedOf, behind, arrivalOf, movedOf}
+use Rattle.mesh.specs.Cells.{joined, countOf}
+use Rattle.mesh.specs.Mesh.{goesIn, goerOf, behind, arrivalOf, movedOf}
 use Rattle.mesh.proofs.Stepping.{stepped, from-behind, step-other}
 use Rattle.mesh.proofs.Sweep.{never, goes-ahead, no-arrival, an-arrival}
 use Rattle.course.specs.Showing.{contentOf, changed}

@@ -1,10 +1,10 @@
 -- A list of moves, made on cells that show records: after each move they show them where it takes them, and its count is of those in another cell.
-use Prim.Native.Nat.{ℕ, zero, suc, _+_, _-_, _*_, _≤_, _<_}
-use mathlib.Core.Path.{_≡_, refl, sym, ap, ap₂, _∙_}
-use mathlib.Core.Logic.{_⊎_, inl, inr, ⊎-elim}
+use Prim.Native.Nat.{ℕ, zero, suc, _+_, _-_, _≤_, _<_}
+use mathlib.Core.Path.{_≡_, refl, sym, ap, _∙_}
+use mathlib.Core.Logic.{_⊎_, ⊎-elim}
 use mathlib.Core.Bool.{Bool, true, false, cond}
 use native.Mathlib.Omega.{arith}
-use borrow.Author.Tests.{eqb-true, eqb-false, eq-eqb, ne-eqb}
+use borrow.Author.Tests.{eqb-true, eq-eqb, ne-eqb}
 use lib.Dec.{eqb, ltb}
 use Rattle.laws.specs.Sums.{sum}
 use Rattle.laws.proofs.Sums.{sum-cong}
@@ -17,9 +17,8 @@ use Rattle.array.proofs.Board.{partner-in, partner-twice}
 use Rattle.travel.specs.declared.turns.Turn.{Turn}
 use Rattle.mesh.specs.declared.cells.Rec.{Rec}
 use Rattle.mesh.specs.declared.cells.Cell.{Cell}
-use Rattle.mesh.specs.declared.moving.Rule.{Rule}
-use Rattle.mesh.specs.Cells.{nothing, joined, countOf, marksIn}
-use Rattle.mover.specs.Runs.{ruleOf, turnOn, madeBy, goneBy, madeOn, goneOn, after}
+use Rattle.mesh.specs.Cells.{nothing, joined, marksIn}
+use Rattle.mover.specs.Runs.{ruleOf, turnOn, madeBy, goneBy, goneOn, after}
 use Rattle.mover.proofs.Running.{made-same, gone-same}
 use Rattle.course.specs.Showing.{contentOf, changed, Shows}
 use Rattle.course.proofs.Holds.{Holds, hold0, hold1, hold2}

@@ -1,18 +1,17 @@
 -- A cell holds exactly the records k with P k, of which there are at most two, in the order of k. A cell that a record leaves, the record that leaves, and a cell that a record comes into.
-use Prim.Native.Nat.{ℕ, zero, suc, _+_, _≤_, _<_}
+use Prim.Native.Nat.{ℕ, _<_}
 use mathlib.Core.Path.{_≡_, refl, sym, ap, ap₂, _∙_}
 use mathlib.Core.Logic.{_⊎_, inl, inr, ⊎-elim}
-use mathlib.Core.Bool.{Bool, true, false, cond}
+use mathlib.Core.Bool.{Bool, true, false}
 use native.Mathlib.Omega.{arith}
-use borrow.Author.Tests.{eq-eqb, ne-eqb, lt-ltb, le-ltb, eqb-true, eqb-false}
-use lib.Dec.{eqb, ltb}
+use borrow.Author.Tests.{lt-ltb, le-ltb}
 use Rattle.mesh.specs.declared.cells.Rec.{Rec}
 use Rattle.mesh.specs.declared.cells.Cell.{Cell}
 use Rattle.mesh.specs.declared.moving.Rule.{Rule}
 use Rattle.mesh.specs.Cells.{nothing, empty, joined}
 use Rattle.mesh.specs.Mesh.{goesIn, goerOf, stayedOf, firstOf, restOf}
 use Rattle.mesh.proofs.Sweep.{never}
-use Rattle.laws.proofs.Deciding.{apart, same?}
+use Rattle.laws.proofs.Deciding.{apart}
 
 abbrev pair : Rec → Rec → Cell
 pair x y = record { front = x; spare = y }

@@ -2,27 +2,26 @@
 use Prim.Native.Nat.{ℕ, zero, suc, _+_, _-_, _*_, _/_, _%_, _≤_, _<_}
 use mathlib.Core.Path.{_≡_, refl, sym, ap, _∙_, subst}
 use mathlib.Core.Bool.{Bool, true, false, cond}
-use mathlib.Core.List.{[], _∷_}
 use mathlib.Core.Logic.{⊎-elim}
-use native.Mathlib.Nat.{mod-lt, mod-eq-of-lt, mul-pos, lt-of-le-of-lt, div-lt-iff-lt-mul}
+use native.Mathlib.Nat.{mod-eq-of-lt, mul-pos, lt-of-le-of-lt, div-lt-iff-lt-mul}
 use native.Mathlib.Omega.{arith}
 use borrow.Author.Tests.{ne-eqb}
-use lib.Dec.{eqb, ltb}
+use lib.Dec.{eqb}
 use Rattle.laws.proofs.Deciding.{apart}
 use Rattle.array.specs.declared.moves.Way.{Way}
 use Rattle.array.specs.declared.moves.Move.{Move}
 use Rattle.array.specs.declared.moves.Move.the-variants.{Swap, Electronic}
-use Rattle.array.specs.Cells.{groups, cells, cell, place, partner, onward}
+use Rattle.array.specs.Cells.{groups, cells, cell, place, partner}
 use Rattle.array.specs.Moves.{opposite}
 use Rattle.array.specs.Lists.{concentrateRuns, distributeRuns}
 use Rattle.array.proofs.Board.{partner-twice, place-of}
 use Rattle.travel.specs.declared.turns.Turn.{Turn}
-use Rattle.travel.specs.Travel.{distance, toward, heading, travel, stands}
+use Rattle.travel.specs.Travel.{distance, toward, heading, stands}
 use Rattle.travel.specs.Turns.{turnAt}
 use Rattle.travel.proofs.Line.{Before, before-mod, before-div}
 use Rattle.travel.proofs.Walk.{seat, seat<, Heads}
 use Rattle.travel.proofs.Collide.{same, Starts, heads₁, heads₂, never-three, before, can-start}
-use Rattle.travel.proofs.Range.{heading<, stands-in-range, stands-suc}
+use Rattle.travel.proofs.Range.{stands-in-range, stands-suc}
 use Rattle.travel.proofs.Moving.{made, seatOn, seatOn<, step-on, undone, level, level-back, uneven, uneven-back}
 use Rattle.travel.proofs.Legs.{home, key, Leg, Stage, leg, light, stage}
 use Rattle.mesh.specs.declared.cells.Rec.{Rec}

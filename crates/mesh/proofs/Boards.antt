@@ -1,7 +1,7 @@
 -- Six lanes that are those of a board: the side is known, and each has as many cells.
 use Prim.Native.Nat.{ℕ}
 use mathlib.Core.Path.{_≡_}
-use mathlib.Core.Bool.{true, _&&_}
+use mathlib.Core.Bool.{true}
 use mathlib.Core.List.{List}
 use lib.ListN.{length}
 use Rattle.laws.proofs.Bools.{both-left, both-right}

@@ -1,6 +1,6 @@
 -- The distance of a record from its place, by the digits of its aim.
-use Prim.Native.Nat.{ℕ, _+_, _*_, _/_, _%_, _<_}
-use mathlib.Core.Path.{_≡_, refl, sym, ap, ap₂, _∙_}
+use Prim.Native.Nat.{ℕ, _*_, _/_, _%_, _<_}
+use mathlib.Core.Path.{_≡_, sym, ap, _∙_}
 use mathlib.Core.Bool.{Bool, true, false, cond}
 use native.Mathlib.Nat.{mod-lt, mod-eq-of-lt, mul-pos, div-one, one-mul, div-div-eq-div-mul}
 use native.Mathlib.Omega.{arith}

@@ -1,9 +1,9 @@
 -- The groups of a board move one after the other: the cells below base have moved, and the others are as they were.
-use Prim.Native.Nat.{ℕ, zero, suc, _+_, _-_, _*_, _/_, _%_, _≤_, _<_}
+use Prim.Native.Nat.{ℕ, suc, _+_, _-_, _*_, _/_, _%_, _≤_, _<_}
 use mathlib.Core.Path.{_≡_, refl, sym, ap, ap₂, _∙_}
 use mathlib.Core.Logic.{⊎-elim}
-use mathlib.Core.Bool.{Bool, true, false, cond}
-use native.Mathlib.Nat.{suc-mul, mul-le-mul-right, mul-one, mul-pos, div-lt-iff-lt-mul, div-add-mod', mod-lt}
+use mathlib.Core.Bool.{cond}
+use native.Mathlib.Nat.{suc-mul, mul-le-mul-right, mul-one, mul-pos, div-add-mod', mod-lt}
 use native.Mathlib.Omega.{arith}
 use borrow.Author.Tests.{lt-ltb, le-ltb}
 use lib.Dec.{ltb}
@@ -11,8 +11,8 @@ use Rattle.laws.specs.Sums.{sum}
 use Rattle.laws.proofs.Sums.{sum-cong, sum-add}
 use Rattle.laws.proofs.Totals.{sum-few}
 use Rattle.laws.proofs.Deciding.{apart}
-use Rattle.array.specs.Cells.{groups, cells, group, place}
-use Rattle.array.proofs.Board.{cell-of, group-of, group-in, place-in}
+use Rattle.array.specs.Cells.{groups, cells, group}
+use Rattle.array.proofs.Board.{group-of}
 use Rattle.mesh.specs.declared.cells.Cell.{Cell}
 use Rattle.mesh.specs.declared.moving.Rule.{Rule}
 use Rattle.mesh.specs.Cells.{countOf}

@@ -1,25 +1,22 @@
 -- A group's stretch of six lanes, lent and back: the cells of the part, and of the whole once the part is back. A move inside a group looks at no cell outside it.
-use Prim.Native.Nat.{ℕ, zero, suc, _+_, _-_, _*_, _/_, _%_, _≤_, _<_}
+use Prim.Native.Nat.{ℕ, _+_, _-_, _*_, _≤_, _<_}
 use mathlib.Core.Path.{_≡_, refl, sym, ap, ap₂, _∙_}
 use mathlib.Core.Logic.{⊎-elim}
-use mathlib.Core.Bool.{Bool, true, false, cond}
 use mathlib.Core.List.{List, _++_}
 use native.Mathlib.Nat.{mod-eq-of-lt}
 use native.Mathlib.Omega.{arith}
 use lib.ListN.{length, getD, take, drop, length-drop, List·getD-append}
 use lib.Seq.{getD-take, getD-drop, getD-append-add, length-take-le}
-use lib.Dec.{ltb}
-use Rattle.laws.specs.Sums.{sum}
 use Rattle.laws.proofs.Sums.{sum-cong}
 use Rattle.laws.proofs.Deciding.{apart}
 use Rattle.array.specs.declared.moves.Way.{Way}
-use Rattle.array.specs.Cells.{groups, cells, cell, group, place, ahead, onward}
+use Rattle.array.specs.Cells.{groups, group, place, ahead, onward}
 use Rattle.array.specs.Moves.{opposite}
 use Rattle.array.proofs.Board.{place-of, group-of}
 use Rattle.mesh.specs.declared.cells.Rec.{Rec}
 use Rattle.mesh.specs.declared.cells.Cell.{Cell}
 use Rattle.mesh.specs.declared.moving.Rule.{Rule}
-use Rattle.mesh.specs.Cells.{nothing, joined, countOf, cellAt, Sized}
+use Rattle.mesh.specs.Cells.{joined, countOf, cellAt, Sized}
 use Rattle.mesh.specs.Mesh.{goesIn, goerOf, stayedOf, behind, arrivalOf, movedOf}
 use Rattle.mesh.specs.Moved.{MovedGroup, MovedPart}
 use Rattle.mesh.proofs.Slots.{cell-ext}

@@ -1,8 +1,8 @@
 -- One place sends on the record that leaves it.
 use Prim.Native.Nat.{ℕ, _<_}
-use mathlib.Core.Path.{_≡_, refl, sym, ap, ap₂, _∙_}
+use mathlib.Core.Path.{_≡_, sym, ap, ap₂, _∙_}
 use mathlib.Core.Logic.{⊎-elim}
-use mathlib.Core.Bool.{Bool, true, false, cond}
+use mathlib.Core.Bool.{true, cond}
 use native.Mathlib.Nat.{mod-eq-of-lt}
 use borrow.Author.Tests.{eq-eqb, ne-eqb}
 use lib.Dec.{eqb}
@@ -12,7 +12,7 @@ use Rattle.array.proofs.Board.{side-known}
 use Rattle.mesh.specs.declared.cells.Rec.{Rec}
 use Rattle.mesh.specs.declared.cells.Cell.{Cell}
 use Rattle.mesh.specs.declared.moving.Rule.{Rule}
-use Rattle.mesh.specs.Cells.{nothing, joined, countOf}
+use Rattle.mesh.specs.Cells.{joined, countOf}
 use Rattle.mesh.specs.Mesh.{goerOf, stayedOf}
 use Rattle.mesh.specs.Moved.{Sent}
 use Rattle.mesh.proofs.Slots.{joined-none}

@@ -4,12 +4,11 @@ use mathlib.Core.Path.{_≡_, refl, sym, ap, _∙_}
 use mathlib.Core.Bool.{Bool, true, false, cond}
 use mathlib.Core.List.{List}
 use native.Mathlib.Omega.{arith}
-use lib.ListN.{length, set, length-set}
+use lib.ListN.{set, length-set}
 use lib.Dec.{eqb}
 use Rattle.laws.proofs.Setting.{getD-stored}
-use Rattle.mesh.specs.declared.cells.Rec.{Rec}
 use Rattle.mesh.specs.declared.cells.Cell.{Cell}
-use Rattle.mesh.specs.Cells.{cellAt, Sized, nothing, joined, countOf}
+use Rattle.mesh.specs.Cells.{cellAt, Sized, nothing, joined}
 
 -- a choice of cells is a cell of choices
 cond-cell : (b : Bool) (x y : Cell)

@@ -1,14 +1,11 @@
 -- One step along a way, where the edge of the group is not reached: it stays in the group, the cell that it leads to has a cell behind it, and that is where it came from.
-use Prim.Native.Nat.{ℕ, zero, suc, _+_, _-_, _*_, _/_, _%_, _≤_, _<_}
-use mathlib.Core.Path.{_≡_, refl, sym, ap, ap₂, _∙_}
-use mathlib.Core.Bool.{Bool, true, false, cond}
-use native.Mathlib.Nat.{suc-mul, mul-le-mul-right, mod-lt, mod-eq-of-lt, div-add-mod', div-lt-iff-lt-mul, div-eq-sub-div, add-div-right, mul-add-mod-self-right, mul-pos}
+use Prim.Native.Nat.{ℕ, suc, _+_, _-_, _*_, _/_, _%_, _≤_, _<_}
+use mathlib.Core.Path.{_≡_, refl, sym, ap, _∙_}
+use native.Mathlib.Nat.{suc-mul, mul-le-mul-right, mod-lt, mod-eq-of-lt, div-add-mod', div-lt-iff-lt-mul, div-eq-sub-div, add-div-right, mul-add-mod-self-right}
 use native.Mathlib.Omega.{arith}
-use borrow.Author.Tests.{ltb-true}
-use lib.Dec.{eqb, ltb}
 use Rattle.array.specs.declared.moves.Way.{Way}
 use Rattle.array.specs.declared.moves.Way.the-variants.{Right, Left, Up, Down}
-use Rattle.array.specs.Cells.{groups, cells, cell, group, place, row, column, ahead, onward}
+use Rattle.array.specs.Cells.{groups, cell, group, place, ahead, onward}
 use Rattle.array.specs.Moves.{opposite}
 use Rattle.array.proofs.Board.{cell-of, group-of, place-of, place-in}
 use Rattle.travel.specs.Travel.{distance}

@@ -1,12 +1,12 @@
 -- One move of a group, made in place, from the far end back: after k turns the places whose turn has been have sent on what leaves them.
-use Prim.Native.Nat.{ℕ, zero, suc, _+_, _-_, _*_, _/_, _%_, _≤_, _<_}
+use Prim.Native.Nat.{ℕ, _+_, _-_, _/_, _%_, _≤_, _<_}
 use mathlib.Core.Path.{_≡_, refl, sym, ap, ap₂, _∙_}
-use mathlib.Core.Logic.{_⊎_, inl, inr, ⊎-elim}
+use mathlib.Core.Logic.{_⊎_, ⊎-elim}
 use mathlib.Core.Bool.{Bool, true, false, cond}
 use native.Mathlib.Nat.{mod-lt, mul-pos, mod-eq-of-lt}
 use native.Mathlib.Omega.{arith}
 use native.Mathlib.Numerals.{add-one}
-use borrow.Author.Tests.{eqb-true, eqb-false, eq-eqb, ne-eqb, lt-ltb, le-ltb, ltb-true, ltb-false}
+use borrow.Author.Tests.{eq-eqb, ne-eqb, lt-ltb, le-ltb, ltb-true}
 use lib.Dec.{eqb, ltb}
 use Rattle.laws.specs.Sums.{sum}
 use Rattle.laws.proofs.Deciding.{apart, same?, ltb-next}
@@ -21,7 +21,7 @@ use Rattle.mesh.specs.declared.cells.Cell.{Cell}
 use Rattle.mesh.specs.declared.moving.Rule.{Rule}
 use Rattle.mesh.specs.Cells.{nothing, joined, countOf}
 use Rattle.mesh.specs.Digits.{turnOf}
-use Rattle.mesh.specs.Mesh.{headingOf, goesIn, firstOf, restOf, goerOf, stayedOf, behind, arrivalOf, movedOf}
+use Rattle.mesh.specs.Mesh.{headingOf, goesIn, goerOf, stayedOf, behind, arrivalOf, movedOf}
 use Rattle.mesh.specs.Moved.{Sent, MovedGroup}
 use Rattle.mesh.proofs.Slots.{joined-none}
 use Rattle.mesh.proofs.Stepping.{stepped, from-behind, distance-ahead, step-other}

@@ -1,9 +1,7 @@
 -- One electronic move. A cell's next content is made of its own, less the record that leaves it, and of what the neighbour behind it sends on.
-use Prim.Native.Nat.{ℕ, zero, suc, _+_, _-_, _*_, _/_, _%_}
+use Prim.Native.Nat.{ℕ, _/_, _%_}
 use mathlib.Core.Bool.{Bool, true, false, cond}
 use lib.Dec.{ltb, eqb}
-use Rattle.array.specs.declared.moves.Way.{Way}
-use Rattle.array.specs.declared.moves.Way.the-variants.{Right, Left, Up, Down}
 use Rattle.array.specs.Cells.{groups, place, ahead, onward}
 use Rattle.array.specs.Moves.{opposite}
 use Rattle.travel.specs.Travel.{distance}

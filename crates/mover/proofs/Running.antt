@@ -1,17 +1,14 @@
 -- A list of moves as it is made, move after move. A move of a board looks at cells of the board only.
-use Prim.Native.Nat.{ℕ, zero, suc, _+_, _-_, _*_, _/_, _≤_, _<_}
-use mathlib.Core.Path.{_≡_, refl, sym, ap, ap₂, _∙_, subst}
+use Prim.Native.Nat.{ℕ, _+_, _-_, _*_, _≤_, _<_}
+use mathlib.Core.Path.{_≡_, refl, sym, ap, _∙_, subst}
 use mathlib.Core.Bool.{Bool, true, false, cond}
 use mathlib.Core.List.{List}
-use native.Mathlib.Nat.{div-lt-iff-lt-mul, mul-pos, sub-zero, mul-one}
+use native.Mathlib.Nat.{div-lt-iff-lt-mul, mul-pos, sub-zero}
 use native.Mathlib.Numerals.{add-one}
 use native.Mathlib.Omega.{arith}
-use lib.ListN.{length, getD, set}
-use lib.Seq.{sets}
+use lib.ListN.{length, set}
 use lib.Dec.{eqb}
 use borrow.Author.Tests.{eq-eqb}
-use Rattle.laws.specs.Sums.{sum}
-use Rattle.laws.specs.Tables.{entries}
 use Rattle.laws.proofs.Sums.{sum-cong}
 use Rattle.laws.proofs.Tables.{entry-at, length-entries}
 use Rattle.laws.proofs.Totals.{sum-few}
@@ -19,21 +16,20 @@ use Rattle.laws.proofs.Stores.{Storing, storing-start, storing-next, storing-al
 use Rattle.array.specs.declared.moves.Way.{Way}
 use Rattle.array.specs.declared.moves.Move.{Move}
 use Rattle.array.specs.declared.moves.Move.the-variants.{Swap, Electronic}
-use Rattle.array.specs.Cells.{isSide, groups, cells, group, partner}
+use Rattle.array.specs.Cells.{isSide, cells, group, partner}
 use Rattle.array.proofs.Board.{side-known, partner-in, group-in}
 use Rattle.travel.specs.declared.turns.Turn.{Turn}
-use Rattle.mesh.specs.declared.cells.Rec.{Rec}
 use Rattle.mesh.specs.declared.cells.Cell.{Cell}
 use Rattle.mesh.specs.declared.moving.Rule.{Rule}
 use Rattle.light.specs.Lane.{isBoard}
 use Rattle.mesh.specs.Cells.{countOf, marksIn, Sized, areLanes}
-use Rattle.mesh.specs.Mesh.{goerOf, movedOf}
+use Rattle.mesh.specs.Mesh.{goerOf}
 use Rattle.mesh.specs.Moved.{MovedAll, MovedLanes}
 use Rattle.mesh.proofs.Sweep.{one-most}
 use Rattle.mesh.proofs.Parts.{moved-same}
 use Rattle.mesh.proofs.Groups.{count-few}
 use Rattle.mover.specs.Swaps.{SwappedAll}
-use Rattle.mover.specs.Runs.{ruleOf, turnOn, madeBy, goneBy, madeOn, goneOn, after, movedLog, Made, Ran}
+use Rattle.mover.specs.Runs.{ruleOf, turnOn, madeBy, goneBy, goneOn, after, movedLog, Made, Ran}
 
 -- a move by what it is
 pub made-swap : {back : Bool} {s r : ℕ} {x : Turn} {T T′ : ℕ → Cell} → x .step ≡ Swap → SwappedAll s T T′ r → Made back s x T T′ r

@@ -1,19 +1,17 @@
 -- What aims that are not refused are: in concentrate the ranks, in distribute rising over the first cells, which are the marked ones.
-use Prim.Native.Nat.{ℕ, zero, suc, _+_, _-_, _*_, _≤_, _<_}
-use mathlib.Core.Path.{_≡_, refl, sym, ap, _∙_}
+use Prim.Native.Nat.{ℕ, zero, suc, _+_, _-_, _≤_, _<_}
+use mathlib.Core.Path.{_≡_, refl, ap}
 use mathlib.Core.Bool.{Bool, true, false, cond, not, _&&_, _||_}
-use mathlib.Core.Logic.{_⊎_, inl, inr, ⊎-elim}
+use mathlib.Core.Logic.{_⊎_, ⊎-elim}
 use mathlib.Core.List.{List}
 use native.Mathlib.Omega.{arith}
-use borrow.Author.Tests.{eqb-true, eqb-false, eq-eqb, ltb-true, ltb-false, leb-false, lt-ltb, le-ltb, not-false}
-use lib.Dec.{eqb, ltb, leb}
+use borrow.Author.Tests.{eqb-true, eq-eqb, ltb-false, leb-false, lt-ltb, le-ltb}
+use lib.Dec.{eqb, ltb}
 use lib.ListN.{length, getD}
-use Rattle.laws.proofs.Bools.{both-right}
 use Rattle.laws.proofs.Deciding.{apart, same?}
-use Rattle.array.specs.Cells.{cells, isCell, isSide}
+use Rattle.array.specs.Cells.{cells, isCell}
 use Rattle.array.proofs.Board.{cell-known}
 use Rattle.marks.specs.Marks.{rankIn}
-use Rattle.records.specs.Cases.{badIn, badAim}
 use Rattle.records.specs.Entries.{Good}
 
 and-false : (a b : Bool) → (a && b) ≡ false → a ≡ true → b ≡ false

@@ -3,11 +3,11 @@
 -- rank r stands by itself in cell r; and the list has exactly 7(s − 1) electronic moves and two by light.
 -- A cell's slots are its front lanes and its spare lanes. What concentrate promises of its lanes after n moves is `Stood false s n` (specs/Entries.antt), so each
 -- theorem here begins from that promise, and from marks and aims that were not refused, `Good` (what that is for concentrate says `Ranked`).
-use Prim.Native.Nat.{ℕ, zero, suc, _+_, _-_, _*_, _≤_, _<_}
+use Prim.Native.Nat.{ℕ, _-_, _*_, _≤_, _<_}
 use mathlib.Core.Path.{_≡_, refl, sym, ap, _∙_}
-use mathlib.Core.Bool.{Bool, true, false}
+use mathlib.Core.Bool.{true, false}
 use mathlib.Core.Logic.{_⊎_, inl, inr, ⊎-elim}
-use mathlib.Core.List.{List, map}
+use mathlib.Core.List.{List}
 use native.Mathlib.Nat.{sub-self}
 use native.Mathlib.Omega.{arith}
 use lib.ListN.{length, getD}
@@ -19,9 +19,9 @@ use Rattle.array.proofs.Board.{side-known}
 use Rattle.mover.specs.Runs.{runsOf}
 use Rattle.array.specs.Cells.{cells, group}
 use Rattle.array.specs.Moves.{moves, electronic, swaps}
-use Rattle.array.specs.Lists.{concentrateRuns, distributeRuns}
+use Rattle.array.specs.Lists.{concentrateRuns}
 use Rattle.array.proofs.Counts.{concentrate-electronic, concentrate-swaps, concentrate-length}
-use Rattle.travel.specs.Travel.{toward, heading, stands}
+use Rattle.travel.specs.Travel.{toward, heading}
 use Rattle.travel.proofs.Collide.{at-the-end}
 use Rattle.travel.proofs.Range.{same-group, heading<}
 use Rattle.mesh.specs.declared.cells.Rec.{Rec}

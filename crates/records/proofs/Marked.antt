@@ -1,5 +1,5 @@
 -- The marked cells in the order of their indices, and lanes that were cleared: they show the marked cells' records.
-use Prim.Native.Nat.{ℕ, zero, suc, _+_, _-_, _*_, _≤_, _<_}
+use Prim.Native.Nat.{ℕ, zero, suc, _+_, _-_, _≤_, _<_}
 use mathlib.Core.Path.{_≡_, refl, sym, ap, _∙_}
 use mathlib.Core.Bool.{Bool, true, false, cond}
 use mathlib.Core.List.{List}
@@ -7,15 +7,14 @@ use mathlib.Core.Logic.{_⊎_, inl, inr, ⊎-elim}
 use native.Mathlib.Omega.{arith}
 use borrow.Author.Tests.{eqb-true, eqb-false, eq-eqb, ne-eqb, lt-ltb, le-ltb}
 use lib.ListN.{getD}
-use lib.Dec.{eqb, ltb}
-use Rattle.laws.specs.Sums.{sum}
+use lib.Dec.{eqb}
 use Rattle.laws.proofs.Sums.{sum-add}
 use Rattle.laws.proofs.Deciding.{apart, same?}
 use Rattle.array.specs.Cells.{cells}
 use Rattle.mesh.specs.declared.cells.Rec.{Rec}
 use Rattle.mesh.specs.declared.cells.Cell.{Cell}
-use Rattle.mesh.specs.Cells.{nothing, empty, alone, recordIn}
-use Rattle.course.specs.Showing.{contentOf, Shows}
+use Rattle.mesh.specs.Cells.{empty, alone, recordIn}
+use Rattle.course.specs.Showing.{Shows}
 use Rattle.course.proofs.Holds.{Holds, hold0, hold1, holds-one}
 use Rattle.course.proofs.Content.{Rising, Fits, At, content-holds}
 use Rattle.marks.specs.Marks.{rankIn}

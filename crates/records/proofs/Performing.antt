@@ -1,5 +1,5 @@
 -- The moves up to a cut, from lanes that were found good.
-use Prim.Native.Nat.{ℕ, zero, suc, _+_, _-_, _*_, _≤_, _<_}
+use Prim.Native.Nat.{ℕ, suc, _-_, _≤_, _<_}
 use mathlib.Core.Path.{_≡_, refl, sym, ap, _∙_}
 use mathlib.Core.Bool.{Bool, true, false, cond}
 use mathlib.Core.Logic.{⊎-elim}
@@ -7,7 +7,6 @@ use mathlib.Core.List.{List}
 use native.Mathlib.Nat.{sub-zero}
 use native.Mathlib.Omega.{arith}
 use borrow.Author.Tests.{eq-eqb, ne-eqb}
-use lib.Dec.{eqb}
 use lib.ListN.{length, getD}
 use lib.Seq.{sets}
 use Rattle.laws.specs.Tables.{entries}
@@ -29,9 +28,9 @@ use Rattle.course.proofs.Standing.{concentrate-step, distribute-step}
 use Rattle.clearing.specs.Cleared.{keptAt, kept, zeros}
 use Rattle.marks.specs.Marks.{rankIn}
 use Rattle.records.specs.Cases.{marked, totalMoves}
-use Rattle.records.specs.Records.{markedCell, countIn, recordOf, cellOf, movedCounts}
-use Rattle.records.specs.Entries.{Good, Stood, Performed}
-use Rattle.records.proofs.Aims.{Ranked, Aimed, good-ranked, good-aimed}
+use Rattle.records.specs.Records.{markedCell, countIn, recordOf, cellOf}
+use Rattle.records.specs.Entries.{Good, Performed}
+use Rattle.records.proofs.Aims.{Aimed, good-ranked, good-aimed}
 use Rattle.records.proofs.Marked.{Cleared, start-rises, start-inside, start-aims, start-rising, start-shows, first-rising, first-shows}
 
 -- lanes that were cleared

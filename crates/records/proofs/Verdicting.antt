@@ -1,7 +1,7 @@
 -- The verdicts of the entries: made in two steps, and what is known where no case applies.
-use Prim.Native.Nat.{ℕ, suc, _≤_, _<_}
+use Prim.Native.Nat.{ℕ, _≤_, _<_}
 use mathlib.Core.Path.{_≡_, refl, sym, ap, ap₂, _∙_}
-use mathlib.Core.Bool.{Bool, true, false, cond, not, _&&_}
+use mathlib.Core.Bool.{Bool, true, false, not, _&&_}
 use mathlib.Core.List.{List, [], _∷_, _++_}
 use native.Mathlib.Omega.{arith}
 use borrow.Author.Tests.{not-false, eqb-true, ltb-false}
@@ -12,7 +12,7 @@ use Rattle.array.specs.declared.answers.Answer.{Answer}
 use Rattle.array.specs.declared.answers.Case.{Case}
 use Rattle.array.specs.Cells.{isSide, cells}
 use Rattle.array.specs.declared.moves.Run.{Run}
-use Rattle.array.specs.Answers.{accepted, refusing, verdict, logCase, acceptedBy}
+use Rattle.array.specs.Answers.{accepted, refusing, verdict, logCase}
 use Rattle.array.proofs.Board.{side-known}
 use Rattle.array.proofs.Verdicts.{NoneApplies, AllRefuse, none-applies, accepted-is}
 use Rattle.mesh.specs.Cells.{Sized}
@@ -20,7 +20,6 @@ use Rattle.mover.specs.Runs.{runsOf}
 use Rattle.marks.specs.Marks.{marksCase}
 use Rattle.marks.proofs.Checked.{good-marks}
 use Rattle.records.specs.Cases.{badAim, aimsCase, cutCase, laneCases, totalMoves}
-use Rattle.records.specs.Cuts.{firstRuns}
 use Rattle.records.specs.Entries.{fullCases, cutCases, Good}
 
 -- a refusal is the same whatever the accepted answer is

@@ -1,10 +1,10 @@
 -- The records of concentrate: never three in a cell, and at the end each in the cell of its rank.
 use Prim.Native.Nat.{ℕ, zero, suc, _+_, _-_, _*_, _/_, _%_, _≤_, _<_, min}
 use mathlib.Core.Path.{_≡_, refl, sym, ap, _∙_}
-use mathlib.Core.List.{List, [], _∷_, _++_, append-assoc}
+use mathlib.Core.List.{List, [], _∷_, _++_}
 use lib.ListN.{take}
 use lib.Seq.{take-nil}
-use lib.Arith.{digits-div, digits-mod, digits-lt, mod-mul}
+use lib.Arith.{digits-div, digits-mod, mod-mul}
 use native.Mathlib.Nat.{div-add-mod', mod-lt, mod-eq-of-lt, div-eq-of-lt, div-lt-iff-lt-mul, mul-pos, le-div-iff-mul-le, le-trans, lt-of-le-of-lt, div-mul-le-self, zero-min, add-zero, add-suc, zero-add}
 use native.Mathlib.Decide.{decLe}
 use native.Mathlib.Omega.{arith}

@@ -1,6 +1,6 @@
 -- Each electronic move of concentrate: where the records stand before it, by the moves of their half made so far, and which move of distribute undoes it.
 use Prim.Native.Nat.{ℕ, zero, suc, _+_, _-_, _*_, _/_, _%_, _≤_, _<_, min}
-use mathlib.Core.Path.{_≡_, refl, sym, ap, _∙_}
+use mathlib.Core.Path.{_≡_, ap, _∙_}
 use lib.ListN.{getD, take}
 use native.Mathlib.Decide.{decLt}
 use native.Mathlib.Omega.{arith}

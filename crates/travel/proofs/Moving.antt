@@ -1,21 +1,21 @@
 -- One move of the records of a group, made and undone, by the moves made before it; and that no two in one place make it, or undo it, together.
-use Prim.Native.Nat.{ℕ, zero, suc, _+_, _-_, _*_, _/_, _%_, _≤_, _<_}
-use mathlib.Core.Path.{_≡_, refl, sym, ap, _∙_}
-use mathlib.Core.Bool.{Bool, true, false, cond}
+use Prim.Native.Nat.{ℕ, suc, _+_, _-_, _*_, _/_, _%_, _≤_, _<_}
+use mathlib.Core.Path.{_≡_, sym, ap, _∙_}
+use mathlib.Core.Bool.{cond}
 use mathlib.Core.Logic.{⊎-elim}
-use native.Mathlib.Nat.{div-add-mod', mod-lt, suc-mul, div-lt-iff-lt-mul}
+use native.Mathlib.Nat.{div-add-mod', mod-lt, suc-mul}
 use native.Mathlib.Omega.{arith}
 use borrow.Author.Tests.{le-leb, lt-leb}
 use lib.Dec.{leb}
-use lib.Arith.{digits-div, digits-mod, digits-lt}
+use lib.Arith.{digits-div, digits-mod}
 use Rattle.array.specs.declared.moves.Way.{Way}
 use Rattle.array.specs.declared.moves.Way.the-variants.{Right, Left, Up, Down}
 use Rattle.array.specs.Cells.{groups, cell, row, column, onward}
 use Rattle.travel.specs.Travel.{distance, toward}
 use Rattle.array.specs.Moves.{opposite}
 use Rattle.laws.proofs.Deciding.{apart}
-use Rattle.travel.proofs.Line.{near, near-lt, near-none, near-all, undo-up, undo-down, both-up, both-down, both-undo-up, both-undo-down, Before, before-div}
-use Rattle.travel.proofs.Walk.{seat, seat<, Heads, x<, y<, right, left, up, down}
+use Rattle.travel.proofs.Line.{near, near-all, undo-up, undo-down, both-up, both-down, both-undo-up, both-undo-down, Before, before-div}
+use Rattle.travel.proofs.Walk.{seat, seat<, Heads, x<, right, left, up, down}
 use Rattle.travel.proofs.Collide.{same}
 
 -- of a moves right, b left, c up and d down, those one way

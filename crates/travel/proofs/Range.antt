@@ -1,17 +1,17 @@
 -- What holds of every move list: a record stays among the cells, and an electronic move leaves it in its group. And what concentrate's list holds.
-use Prim.Native.Nat.{ℕ, zero, suc, _+_, _-_, _*_, _/_, _%_, _≤_, _<_}
+use Prim.Native.Nat.{ℕ, zero, suc, _+_, _-_, _*_, _≤_, _<_}
 use mathlib.Core.Path.{_≡_, refl, sym, ap, ap₂, _∙_}
-use mathlib.Core.List.{List, [], _∷_, _++_, append-assoc}
+use mathlib.Core.List.{List, [], _∷_, _++_}
 use lib.ListN.{take, getD, length, length-append, length-replicate}
 use lib.Seq.{take-suc}
-use lib.Arith.{digits-div, digits-mod, digits-lt}
-use native.Mathlib.Nat.{div-add-mod', mod-lt, mod-eq-of-lt, div-lt-iff-lt-mul, mul-pos, zero-add, add-zero, add-suc, suc-add}
+use lib.Arith.{digits-div, digits-lt}
+use native.Mathlib.Nat.{div-add-mod', mod-lt, mod-eq-of-lt, div-lt-iff-lt-mul, mul-pos, zero-add, add-suc, suc-add}
 use native.Mathlib.Omega.{arith}
 use Rattle.array.specs.declared.moves.Way.{Way}
 use Rattle.array.specs.declared.moves.Way.the-variants.{Right, Left, Up, Down}
 use Rattle.array.specs.declared.moves.Move.{Move}
 use Rattle.array.specs.declared.moves.Move.the-variants.{Swap, Electronic}
-use Rattle.array.specs.Cells.{groups, cells, cell, place, group, row, column, partner}
+use Rattle.array.specs.Cells.{cells, cell, place, group, partner}
 use Rattle.travel.proofs.Listed.{swapsOf, turn-step, turn-swaps}
 use Rattle.array.specs.Lists.{concentrateRuns}
 use Rattle.travel.specs.Travel.{concentrateMoves, toward, heading, travel, stands}

@@ -1,8 +1,8 @@
 -- Where a record of a group stands, by the moves made.
-use Prim.Native.Nat.{ℕ, zero, suc, _+_, _-_, _*_, _/_, _%_, _≤_, _<_, min, max}
-use mathlib.Core.Path.{_≡_, refl, sym, ap, _∙_}
+use Prim.Native.Nat.{ℕ, zero, suc, _+_, _-_, _*_, _/_, _%_, _≤_, _<_, min}
+use mathlib.Core.Path.{_≡_, ap, _∙_}
 use mathlib.Core.Bool.{cond}
-use mathlib.Core.List.{List, [], _∷_, _++_}
+use mathlib.Core.List.{List, _++_}
 use lib.ListN.{take}
 use lib.Dec.{ltb}
 use borrow.Author.Tests.{lt-ltb, le-ltb}
@@ -13,8 +13,7 @@ use native.Mathlib.Omega.{arith}
 use Rattle.array.specs.declared.moves.Way.{Way}
 use Rattle.array.specs.declared.moves.Way.the-variants.{Right, Left, Up, Down}
 use Rattle.array.specs.declared.moves.Move.{Move}
-use Rattle.array.specs.declared.moves.Move.the-variants.{Swap, Electronic}
-use Rattle.array.specs.Cells.{groups, cell, place, group, row, column}
+use Rattle.array.specs.Cells.{cell, row, column}
 use Rattle.laws.proofs.Deciding.{apart}
 use Rattle.travel.proofs.Listed.{run}
 use Rattle.travel.specs.Travel.{toward, heading, travel}

@@ -1,17 +1,15 @@
+-- `clearing::keep_words` meets its contract: cell after cell, by its mark.
 use Prim.Native.Nat.{_-_, _≤_}
-use mathlib.Core.Path.{_≡_, refl, sym, _∙_}
+use mathlib.Core.Path.{sym, _∙_}
 use mathlib.Core.Logic.{⊎-elim}
 use native.Mathlib.Omega.{arith}
 use borrow.Author.Needs.{needs}
 use borrow.Author.Tests.{eq-eqb, ne-eqb}
-use lib.ListN.{length, getD}
+use lib.ListN.{length}
 use Rattle.laws.proofs.Rewriting.{Rewriting, rewriting-start, rewriting-store, rewriting-keep, rewriting-end}
 use Rattle.clearing.specs.Cleared.{keptAt}
 use Rattle.clearing.proofs.keep_words.Statement.{statement}
 use Rattle.clearing.proofs.keep_words.Tie as tie
-use Rattle.clearing.proofs.keep_words.Reads as reads
-use Rattle.clearing.proofs.keep_words.Lts as lts
-use Rattle.clearing.proofs.mark_at.Reads as mark-at-reads
 
 abbrev Inv-loop : tie.InvT-loop
 Inv-loop marks lane₀ i₀ lane i = (i ≤ length lane₀) × Rewriting (keptAt marks lane₀) 0 lane₀ lane i

@@ -1,10 +1,9 @@
+-- `clearing::mark_at` meets its contract: past the end there is no mark.
 use mathlib.Core.Path.{sym}
 use lib.ListN.{List·getD-eq-default}
 use borrow.Author.Needs.{needs}
 use Rattle.clearing.proofs.mark_at.Statement.{statement}
 use Rattle.clearing.proofs.mark_at.Tie as tie
-use Rattle.clearing.proofs.mark_at.Reads as reads
-use Rattle.clearing.proofs.mark_at.Lts as lts
 
 shared-slice-read-result : tie.Need-shared-slice-read-result
 shared-slice-read-result c = search needs

@@ -1,13 +1,12 @@
+-- `clearing::zero_words` meets its contract: cell after cell.
 use Prim.Native.Nat.{ℕ, _-_, _≤_}
-use mathlib.Core.Path.{_≡_, refl, sym, _∙_}
+use mathlib.Core.Path.{refl}
 use native.Mathlib.Omega.{arith}
 use borrow.Author.Needs.{needs}
-use lib.ListN.{length, getD, length-set}
+use lib.ListN.{length, length-set}
 use Rattle.laws.proofs.Rewriting.{Rewriting, rewriting-start, rewriting-store, rewriting-end}
 use Rattle.clearing.proofs.zero_words.Statement.{statement}
 use Rattle.clearing.proofs.zero_words.Tie as tie
-use Rattle.clearing.proofs.zero_words.Reads as reads
-use Rattle.clearing.proofs.zero_words.Lts as lts
 
 abbrev Inv-loop : tie.InvT-loop
 Inv-loop lane₀ i₀ lane i = (i ≤ length lane) × Rewriting (λ (k : ℕ). 0) 0 lane₀ lane i

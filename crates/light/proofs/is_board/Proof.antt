@@ -1,3 +1,4 @@
+-- `light::is_board` meets its contract: the side is judged before the length.
 use mathlib.Core.Path.{sym, _∙_}
 use borrow.Author.Needs.{needs}
 use Rattle.light.proofs.is_board.Statement.{statement}

@@ -1,17 +1,14 @@
+-- `light::swap_marks` meets its contract: the same law for marks.
 use Prim.Native.Nat.{_-_}
-use mathlib.Core.Path.{_≡_, refl, sym, _∙_}
+use mathlib.Core.Path.{sym, _∙_}
 use mathlib.Core.Logic.{inl, inr, ⊎-elim}
 use native.Mathlib.Omega.{arith}
 use borrow.Author.Needs.{needs}
 use borrow.Author.Tests.{not-true, not-false}
-use lib.ListN.{length, length-set}
+use lib.ListN.{length-set}
 use Rattle.light.proofs.Turning.{Turning, not-swapped, turning-start, turning-few, turning-long, turning-partner, turning-turn, turning-end}
 use Rattle.light.proofs.swap_marks.Statement.{statement}
 use Rattle.light.proofs.swap_marks.Tie as tie
-use Rattle.light.proofs.swap_marks.Reads as reads
-use Rattle.light.proofs.swap_marks.Lts as lts
-use Rattle.array.proofs.cells.partner.Reads as partner-reads
-use Rattle.light.proofs.is_board.Reads as is-board-reads
 
 abbrev Inv-loop : tie.InvT-loop
 Inv-loop side lane₀ n j₀ lane j = Turning side n j lane₀ lane

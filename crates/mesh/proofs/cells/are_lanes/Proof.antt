@@ -1,11 +1,9 @@
+-- `mesh::cells::are_lanes` meets its contract: lane after lane, each as long as the board.
 use mathlib.Core.Path.{sym, _∙_}
 use borrow.Author.Tests.{not-true, not-false}
 use borrow.Author.Needs.{needs}
 use Rattle.mesh.proofs.cells.are_lanes.Statement.{statement}
 use Rattle.mesh.proofs.cells.are_lanes.Tie as tie
-use Rattle.mesh.proofs.cells.are_lanes.Reads as reads
-use Rattle.mesh.proofs.cells.are_lanes.Lts as lts
-use Rattle.light.proofs.is_board.Reads as is-board-reads
 
 is-board-requires : tie.Need-is-board-requires
 is-board-requires c κs = search needs

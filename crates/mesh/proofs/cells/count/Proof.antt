@@ -1,8 +1,7 @@
+-- `mesh::cells::count` meets its contract: by the mark.
 use borrow.Author.Tests.{eq-eqb, ne-eqb}
 use Rattle.mesh.proofs.cells.count.Statement.{statement}
 use Rattle.mesh.proofs.cells.count.Tie as tie
-use Rattle.mesh.proofs.cells.count.Reads as reads
-use Rattle.mesh.proofs.cells.count.Lts as lts
 
 returns : tie.Need-returns
 returns c = rw (eq-eqb _ _ (c .if1 .taken))

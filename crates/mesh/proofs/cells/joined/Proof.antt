@@ -1,11 +1,9 @@
+-- `mesh::cells::joined` meets its contract: by the marks, and of two by the aims.
 use borrow.Author.Tests.{eq-eqb, ne-eqb, lt-ltb, le-ltb}
 use Rattle.mesh.specs.Cells.{joined}
 use borrow.Author.Needs.{needs}
 use Rattle.mesh.proofs.cells.joined.Statement.{statement}
 use Rattle.mesh.proofs.cells.joined.Tie as tie
-use Rattle.mesh.proofs.cells.joined.Reads as reads
-use Rattle.mesh.proofs.cells.joined.Lts as lts
-use Rattle.mesh.proofs.cells.nothing.Reads as nothing-reads
 
 returns : tie.Need-returns
 unfolding joined

@@ -1,9 +1,8 @@
+-- `mesh::cells::put` meets its contract: two stores in each lane.
 use Rattle.mesh.proofs.Slots.{cells-stored}
 use borrow.Author.Needs.{needs}
 use Rattle.mesh.proofs.cells.put.Statement.{statement}
 use Rattle.mesh.proofs.cells.put.Tie as tie
-use Rattle.mesh.proofs.cells.put.Reads as reads
-use Rattle.mesh.proofs.cells.put.Lts as lts
 
 mul-words : tie.Need-mul-words
 mul-words c = search needs

@@ -1,8 +1,7 @@
+-- `mesh::moving::coordinate` meets its contract: by the way.
 use borrow.Author.Needs.{needs}
 use Rattle.mesh.proofs.moving.coordinate.Statement.{statement}
 use Rattle.mesh.proofs.moving.coordinate.Tie as tie
-use Rattle.mesh.proofs.moving.coordinate.Reads as reads
-use Rattle.mesh.proofs.moving.coordinate.Lts as lts
 
 enum-told : tie.Need-enum-told
 enum-told c = search needs

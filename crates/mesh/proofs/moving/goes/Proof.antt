@@ -1,4 +1,4 @@
-use mathlib.Core.Path.{_∙_, sym, ap, ap₂}
+-- `mesh::moving::goes` meets its contract: the distance of the place that a record heads for is that of one digit of its aim.
 use borrow.Author.Tests.{eq-eqb, ne-eqb}
 use Rattle.array.proofs.Board.{side-known}
 use Rattle.mesh.specs.Mesh.{goesIn}
@@ -6,11 +6,6 @@ use Rattle.mesh.proofs.Digits.{distance-by-digit}
 use borrow.Author.Needs.{needs}
 use Rattle.mesh.proofs.moving.goes.Statement.{statement}
 use Rattle.mesh.proofs.moving.goes.Tie as tie
-use Rattle.mesh.proofs.moving.goes.Reads as reads
-use Rattle.mesh.proofs.moving.goes.Lts as lts
-use Rattle.mesh.proofs.moving.coordinate.Reads as coordinate-reads
-use Rattle.mesh.proofs.moving.span.Reads as span-reads
-use Rattle.mesh.proofs.moving.wide.Reads as wide-reads
 
 returns : tie.Need-returns
 unfolding goesIn

@@ -1,21 +1,17 @@
+-- `mesh::moving::move_all` meets its contract: group after group (Groups).
 use borrow.Author.Needs.{needs}
-use Prim.Native.Nat.{_+_, _-_, _≤_, _*_}
+use Prim.Native.Nat.{_+_, _-_, _≤_}
 use mathlib.Core.Path.{_≡_, refl, sym, _∙_}
-use mathlib.Core.Bool.{Bool, true, false}
 use native.Mathlib.Omega.{arith}
 use borrow.Author.Tests.{not-true, not-false}
-use Rattle.array.specs.Cells.{isSide, groups as groupsOf, cells}
+use Rattle.array.specs.Cells.{groups as groupsOf, cells}
 use Rattle.array.proofs.Board.{side-known}
-use Rattle.mesh.specs.Cells.{Sized, cellAt}
+use Rattle.mesh.specs.Cells.{cellAt}
 use Rattle.mesh.proofs.Boards.{Lanes, lanes-known}
 use Rattle.mesh.proofs.Sweep.{never}
 use Rattle.mesh.proofs.Groups.{Ranged, ranged-start, ranged-step, ranged-few, ranged-end, part-few, part-fits}
 use Rattle.mesh.proofs.moving.move_all.Statement.{statement}
 use Rattle.mesh.proofs.moving.move_all.Tie as tie
-use Rattle.mesh.proofs.moving.move_all.Reads as reads
-use Rattle.mesh.proofs.moving.move_all.Lts as lts
-use Rattle.mesh.proofs.cells.are_lanes.Reads as are-lanes-reads
-use Rattle.mesh.proofs.moving.move_part.Reads as move-part-reads
 
 abbrev Inv-loop : tie.InvT-loop
 Inv-loop t words₀ marks₀ aims₀ spare-words₀ spare-marks₀ spare-aims₀ groups moved₀ base₀ g₀ words marks aims spare-words spare-marks spare-aims moved base g = (g ≤ groups) × (groups ≡ groupsOf (t .side)) × Lanes (t .side) words marks aims spare-words spare-marks spare-aims × Ranged t g base (cellAt words₀ marks₀ aims₀ spare-words₀ spare-marks₀ spare-aims₀) (cellAt words marks aims spare-words spare-marks spare-aims) moved

@@ -1,8 +1,7 @@
-use Prim.Native.Nat.{ℕ}
-use mathlib.Core.Path.{ap}
+-- `mesh::moving::move_group` meets its contract: from the far end back, what is sent on is not met again (Sweep).
+use Prim.Native.Nat.{ℕ, _-_, _≤_}
+use mathlib.Core.Path.{ap, _≡_, _∙_}
 use Rattle.mesh.specs.Digits.{turnOf}
-use Prim.Native.Nat.{_-_, _≤_}
-use mathlib.Core.Path.{_≡_, sym, _∙_}
 use native.Mathlib.Omega.{arith}
 use lib.ListN.{length}
 use Rattle.array.specs.Cells.{groups}
@@ -11,11 +10,6 @@ use Rattle.mesh.specs.Cells.{Sized, cellAt}
 use Rattle.mesh.proofs.Sweep.{Swept, swept-start, swept-step, swept-few, swept-end, sent-few, turn-below}
 use Rattle.mesh.proofs.moving.move_group.Statement.{statement}
 use Rattle.mesh.proofs.moving.move_group.Tie as tie
-use Rattle.mesh.proofs.moving.move_group.Reads as reads
-use Rattle.mesh.proofs.moving.move_group.Lts as lts
-use Rattle.mesh.proofs.moving.scale.Reads as scale-reads
-use Rattle.mesh.proofs.moving.send.Reads as send-reads
-use Rattle.mesh.proofs.moving.turn.Reads as turn-reads
 
 abbrev Inv-loop : tie.InvT-loop
 Inv-loop t words₀ marks₀ aims₀ spare-words₀ spare-marks₀ spare-aims₀ n way scale moved₀ k₀ words marks aims spare-words spare-marks spare-aims moved k = (k ≤ n) × (n ≡ groups (t .side)) × Sized n words marks aims spare-words spare-marks spare-aims × Swept t (groups (t .side)) k (cellAt words₀ marks₀ aims₀ spare-words₀ spare-marks₀ spare-aims₀) (cellAt words marks aims spare-words spare-marks spare-aims) moved

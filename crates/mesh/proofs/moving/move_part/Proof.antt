@@ -1,7 +1,7 @@
-use Prim.Native.Nat.{_+_, _-_, _≤_, _*_}
-use mathlib.Core.Path.{_≡_, sym, _∙_}
+-- `mesh::moving::move_part` meets its contract: a group's own stretch of the lanes, lent and back (Parts).
+use Prim.Native.Nat.{_+_, _-_, _≤_}
+use mathlib.Core.Path.{_≡_}
 use native.Mathlib.Omega.{arith}
-use lib.ListN.{length}
 use Rattle.array.specs.Cells.{groups, cells}
 use Rattle.array.proofs.Board.{side-known}
 use Rattle.mesh.specs.Cells.{Sized}
@@ -9,9 +9,6 @@ use Rattle.mesh.proofs.Parts.{part-sized, part-moved}
 use borrow.Author.Needs.{needs}
 use Rattle.mesh.proofs.moving.move_part.Statement.{statement}
 use Rattle.mesh.proofs.moving.move_part.Tie as tie
-use Rattle.mesh.proofs.moving.move_part.Reads as reads
-use Rattle.mesh.proofs.moving.move_part.Lts as lts
-use Rattle.mesh.proofs.moving.move_group.Reads as move-group-reads
 
 mul-end : tie.Need-mul-end
 mul-end c = omega (arith, side-known (c .before .before .before .before .before .before .before .args .t .side) (c .before .before .before .before .before .before .before .pre .0))

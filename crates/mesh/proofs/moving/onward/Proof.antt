@@ -1,9 +1,7 @@
+-- `mesh::moving::onward` meets its contract: by the way.
 use borrow.Author.Needs.{needs}
 use Rattle.mesh.proofs.moving.onward.Statement.{statement}
 use Rattle.mesh.proofs.moving.onward.Tie as tie
-use Rattle.mesh.proofs.moving.onward.Reads as reads
-use Rattle.mesh.proofs.moving.onward.Lts as lts
-use Rattle.mesh.proofs.moving.over.Reads as over-reads
 
 enum-told : tie.Need-enum-told
 enum-told c = search needs

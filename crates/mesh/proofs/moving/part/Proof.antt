@@ -1,12 +1,9 @@
+-- `mesh::moving::part` meets its contract: by which of the two records goes.
 use mathlib.Core.Path.{sym, _∙_}
 use Rattle.mesh.specs.Mesh.{goerOf, stayedOf}
 use borrow.Author.Needs.{needs}
 use Rattle.mesh.proofs.moving.part.Statement.{statement}
 use Rattle.mesh.proofs.moving.part.Tie as tie
-use Rattle.mesh.proofs.moving.part.Reads as reads
-use Rattle.mesh.proofs.moving.part.Lts as lts
-use Rattle.mesh.proofs.cells.nothing.Reads as nothing-reads
-use Rattle.mesh.proofs.moving.goes.Reads as goes-reads
 
 nothing-requires : tie.Need-nothing-requires
 nothing-requires c κs = search needs

@@ -1,3 +1,4 @@
+-- `mesh::moving::scale` meets its contract: by the way.
 use Prim.Native.Nat.{_*_, _≤_}
 use native.Mathlib.Nat.{mul-le-mul, mul-pos}
 use native.Mathlib.Omega.{arith}
@@ -5,9 +6,6 @@ use Rattle.array.proofs.Board.{side-known}
 use borrow.Author.Needs.{needs}
 use Rattle.mesh.proofs.moving.scale.Statement.{statement}
 use Rattle.mesh.proofs.moving.scale.Tie as tie
-use Rattle.mesh.proofs.moving.scale.Reads as reads
-use Rattle.mesh.proofs.moving.scale.Lts as lts
-use Rattle.mesh.proofs.moving.unit.Reads as unit-reads
 
 unit-requires : tie.Need-unit-requires
 unit-requires c κs = search needs

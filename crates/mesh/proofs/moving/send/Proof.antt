@@ -1,17 +1,10 @@
-use mathlib.Core.Path.{_≡_, sym, _∙_}
+-- `mesh::moving::send` meets its contract: where nothing leaves nothing is stored; else two cells are, the one that sends and the one that takes.
 use native.Mathlib.Omega.{arith}
 use Rattle.array.proofs.Board.{side-known}
 use Rattle.mesh.proofs.Sending.{apart-by, sent-none, sent-inside, sent-one}
 use borrow.Author.Needs.{needs}
 use Rattle.mesh.proofs.moving.send.Statement.{statement}
 use Rattle.mesh.proofs.moving.send.Tie as tie
-use Rattle.mesh.proofs.moving.send.Reads as reads
-use Rattle.mesh.proofs.moving.send.Lts as lts
-use Rattle.mesh.proofs.cells.joined.Reads as joined-reads
-use Rattle.mesh.proofs.cells.put.Reads as put-reads
-use Rattle.mesh.proofs.cells.read.Reads as read-reads
-use Rattle.mesh.proofs.moving.onward.Reads as onward-reads
-use Rattle.mesh.proofs.moving.part.Reads as part-reads
 
 read-requires : tie.Need-read-requires
 read-requires c κs = search needs

@@ -1,9 +1,7 @@
+-- `mesh::moving::span` meets its contract: by the way.
 use borrow.Author.Needs.{needs}
 use Rattle.mesh.proofs.moving.span.Statement.{statement}
 use Rattle.mesh.proofs.moving.span.Tie as tie
-use Rattle.mesh.proofs.moving.span.Reads as reads
-use Rattle.mesh.proofs.moving.span.Lts as lts
-use Rattle.mesh.proofs.moving.over.Reads as over-reads
 
 enum-told : tie.Need-enum-told
 enum-told c = search needs

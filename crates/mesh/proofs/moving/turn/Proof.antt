@@ -1,8 +1,7 @@
+-- `mesh::moving::turn` meets its contract: by the way.
 use borrow.Author.Needs.{needs}
 use Rattle.mesh.proofs.moving.turn.Statement.{statement}
 use Rattle.mesh.proofs.moving.turn.Tie as tie
-use Rattle.mesh.proofs.moving.turn.Reads as reads
-use Rattle.mesh.proofs.moving.turn.Lts as lts
 
 enum-told : tie.Need-enum-told
 enum-told c = search needs

@@ -1,13 +1,8 @@
-use mathlib.Core.Path.{_≡_, refl}
-use Rattle.mesh.specs.Digits.{unitOf}
-use mathlib.Core.Path.{refl}
+-- `mesh::moving::unit` meets its contract: by the half that the move is in.
 use native.Mathlib.Omega.{arith}
 use Rattle.array.proofs.Board.{side-known}
-use borrow.Author.Needs.{needs}
 use Rattle.mesh.proofs.moving.unit.Statement.{statement}
 use Rattle.mesh.proofs.moving.unit.Tie as tie
-use Rattle.mesh.proofs.moving.unit.Reads as reads
-use Rattle.mesh.proofs.moving.unit.Lts as lts
 
 mul-result : tie.Need-mul-result
 mul-result c = omega (arith, side-known (c .before .args .side) (c .before .pre))

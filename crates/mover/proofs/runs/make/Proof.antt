@@ -1,15 +1,8 @@
-use Rattle.mover.proofs.Running.{made-lanes, lanes-are}
-use mathlib.Core.Path.{_≡_, sym, _∙_}
-use mathlib.Core.Bool.{true}
-use Rattle.mover.proofs.Running.{made-swap, made-way}
+-- `mover::runs::make` meets its contract: by what the move is.
+use Rattle.mover.proofs.Running.{made-lanes, lanes-are, made-swap}
 use borrow.Author.Needs.{needs}
 use Rattle.mover.proofs.runs.make.Statement.{statement}
 use Rattle.mover.proofs.runs.make.Tie as tie
-use Rattle.mover.proofs.runs.make.Reads as reads
-use Rattle.mover.proofs.runs.make.Lts as lts
-use Rattle.mesh.proofs.moving.move_all.Reads as move-all-reads
-use Rattle.mover.proofs.runs.rule_of.Reads as rule-of-reads
-use Rattle.mover.proofs.swaps.swap_all.Reads as swap-all-reads
 
 enum-told : tie.Need-enum-told
 enum-told c = search needs

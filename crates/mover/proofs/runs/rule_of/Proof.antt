@@ -1,10 +1,7 @@
-use mathlib.Core.Path.{_≡_, refl}
+-- `mover::runs::rule_of` meets its contract: by the list that is made.
 use borrow.Author.Needs.{needs}
 use Rattle.mover.proofs.runs.rule_of.Statement.{statement}
 use Rattle.mover.proofs.runs.rule_of.Tie as tie
-use Rattle.mover.proofs.runs.rule_of.Reads as reads
-use Rattle.mover.proofs.runs.rule_of.Lts as lts
-use Rattle.mover.proofs.runs.one_less.Reads as one-less-reads
 
 one-less-requires : tie.Need-one-less-requires
 one-less-requires c κs = search needs

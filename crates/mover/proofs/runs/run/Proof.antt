@@ -1,10 +1,11 @@
-use Prim.Native.Nat.{_-_, _≤_}
+-- `mover::runs::run` meets its contract: move after move, with the count of each (Running).
+use Prim.Native.Nat.{_-_}
 use mathlib.Core.Path.{_≡_, refl, sym, ap, _∙_}
 use mathlib.Core.List.{List}
 use native.Mathlib.Omega.{arith}
 use borrow.Author.Needs.{needs}
 use borrow.Author.Tests.{not-true, not-false}
-use lib.ListN.{length, length-set}
+use lib.ListN.{length}
 use Rattle.array.specs.declared.moves.Run.{Run}
 use Rattle.array.proofs.Board.{side-known}
 use Rattle.travel.specs.Turns.{turnAt}
@@ -14,13 +15,6 @@ use Rattle.mover.specs.Runs.{runsOf}
 use Rattle.mover.proofs.Running.{Running, running-start, running-next, running-end, ran-nothing, made-few}
 use Rattle.mover.proofs.runs.run.Statement.{statement}
 use Rattle.mover.proofs.runs.run.Tie as tie
-use Rattle.mover.proofs.runs.run.Reads as reads
-use Rattle.mover.proofs.runs.run.Lts as lts
-use Rattle.mesh.proofs.cells.are_lanes.Reads as are-lanes-reads
-use Rattle.mover.proofs.runs.log_count.Reads as log-count-reads
-use Rattle.mover.proofs.runs.make.Reads as make-reads
-use Rattle.mover.proofs.runs.runs_of.Reads as runs-of-reads
-use Rattle.travel.proofs.turns.turn_at.Reads as turn-at-reads
 
 abbrev Inv-loop : tie.InvT-loop
 Inv-loop back side cut words₀ marks₀ aims₀ spare-words₀ spare-marks₀ spare-aims₀ moved₀ runs k₀ words marks aims spare-words spare-marks spare-aims moved k = Lanes side words marks aims spare-words spare-marks spare-aims × (runs ≡ runsOf back side) × (length moved ≡ length moved₀) × Running back side cut k (cellAt words₀ marks₀ aims₀ spare-words₀ spare-marks₀ spare-aims₀) (cellAt words marks aims spare-words spare-marks spare-aims) moved₀ moved

@@ -1,10 +1,7 @@
+-- `mover::runs::runs_of` meets its contract: by the list that is made.
 use borrow.Author.Needs.{needs}
 use Rattle.mover.proofs.runs.runs_of.Statement.{statement}
 use Rattle.mover.proofs.runs.runs_of.Tie as tie
-use Rattle.mover.proofs.runs.runs_of.Reads as reads
-use Rattle.mover.proofs.runs.runs_of.Lts as lts
-use Rattle.array.proofs.lists.concentrate_runs.Reads as concentrate-runs-reads
-use Rattle.array.proofs.lists.distribute_runs.Reads as distribute-runs-reads
 
 distribute-runs-requires : tie.Need-distribute-runs-requires
 distribute-runs-requires c κs = search needs

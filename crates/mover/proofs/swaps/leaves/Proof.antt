@@ -1,14 +1,11 @@
-use mathlib.Core.Path.{_≡_, sym, _∙_, ap₂}
+-- `mover::swaps::leaves` meets its contract: a cell that is its own partner keeps its records.
+use mathlib.Core.Path.{sym, _∙_, ap₂}
 use Prim.Native.Nat.{_+_}
 use native.Mathlib.Omega.{arith}
 use borrow.Author.Tests.{eq-eqb, ne-eqb}
 use borrow.Author.Needs.{needs}
 use Rattle.mover.proofs.swaps.leaves.Statement.{statement}
 use Rattle.mover.proofs.swaps.leaves.Tie as tie
-use Rattle.mover.proofs.swaps.leaves.Reads as reads
-use Rattle.mover.proofs.swaps.leaves.Lts as lts
-use Rattle.array.proofs.cells.partner.Reads as partner-reads
-use Rattle.mover.proofs.swaps.one.Reads as one-reads
 
 partner-requires : tie.Need-partner-requires
 partner-requires c κs = search needs

@@ -1,16 +1,13 @@
+-- `mover::swaps::leaving` meets its contract: cell after cell.
 use Prim.Native.Nat.{_-_, _≤_}
-use mathlib.Core.Path.{_≡_, refl, sym, _∙_}
+use mathlib.Core.Path.{_≡_}
 use native.Mathlib.Omega.{arith}
 use borrow.Author.Needs.{needs}
-use Rattle.laws.specs.Sums.{sum}
 use Rattle.array.specs.Cells.{cells}
 use Rattle.array.proofs.Board.{side-known}
 use Rattle.mover.proofs.Swapping.{Leaving, leaving-start, leaving-next}
 use Rattle.mover.proofs.swaps.leaving.Statement.{statement}
 use Rattle.mover.proofs.swaps.leaving.Tie as tie
-use Rattle.mover.proofs.swaps.leaving.Reads as reads
-use Rattle.mover.proofs.swaps.leaving.Lts as lts
-use Rattle.mover.proofs.swaps.leaves.Reads as leaves-reads
 
 abbrev Inv-loop : tie.InvT-loop
 Inv-loop side marks spare-marks n count₀ i₀ count i = (i ≤ n) × (n ≡ cells side) × Leaving side marks spare-marks i count

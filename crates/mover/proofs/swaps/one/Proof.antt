@@ -1,9 +1,8 @@
+-- `mover::swaps::one` meets its contract: by the mark.
 use native.Mathlib.Omega.{arith}
 use borrow.Author.Tests.{eq-eqb, ne-eqb}
 use Rattle.mover.proofs.swaps.one.Statement.{statement}
 use Rattle.mover.proofs.swaps.one.Tie as tie
-use Rattle.mover.proofs.swaps.one.Reads as reads
-use Rattle.mover.proofs.swaps.one.Lts as lts
 
 returns : tie.Need-returns
 returns c = (rw (eq-eqb _ _ (c .if1 .taken)), omega arith)

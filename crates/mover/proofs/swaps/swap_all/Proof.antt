@@ -1,13 +1,8 @@
+-- `mover::swaps::swap_all` meets its contract: lane after lane (Swapping).
 use Rattle.mover.proofs.Swapping.{swapped-all}
 use borrow.Author.Needs.{needs}
 use Rattle.mover.proofs.swaps.swap_all.Statement.{statement}
 use Rattle.mover.proofs.swaps.swap_all.Tie as tie
-use Rattle.mover.proofs.swaps.swap_all.Reads as reads
-use Rattle.mover.proofs.swaps.swap_all.Lts as lts
-use Rattle.light.proofs.swap_aims.Reads as swap-aims-reads
-use Rattle.light.proofs.swap_marks.Reads as swap-marks-reads
-use Rattle.light.proofs.swap_words.Reads as swap-words-reads
-use Rattle.mover.proofs.swaps.leaving.Reads as leaving-reads
 
 leaving-requires : tie.Need-leaving-requires
 leaving-requires c κs = search needs

@@ -1,5 +1,5 @@
-use mathlib.Core.Path.{_≡_, refl, sym, ap, _∙_}
-use native.Mathlib.Omega.{arith}
+-- `records::entries::cut_short` meets its contract: a refusal changes nothing; else the moves are made, with no log.
+use mathlib.Core.Path.{refl}
 use lib.ListN.{length}
 use Rattle.array.specs.Answers.{acceptedBy}
 use Rattle.mover.specs.Runs.{runsOf}
@@ -8,10 +8,6 @@ use Rattle.records.proofs.Verdicting.{cut-known, fitting-sized}
 use borrow.Author.Needs.{needs}
 use Rattle.records.proofs.entries.cut_short.Statement.{statement}
 use Rattle.records.proofs.entries.cut_short.Tie as tie
-use Rattle.records.proofs.entries.cut_short.Reads as reads
-use Rattle.records.proofs.entries.cut_short.Lts as lts
-use Rattle.records.proofs.entries.judge_cut.Reads as judge-cut-reads
-use Rattle.records.proofs.entries.perform.Reads as perform-reads
 
 judge-cut-requires : tie.Need-judge-cut-requires
 judge-cut-requires c κs = search needs

@@ -1,4 +1,5 @@
-use mathlib.Core.Path.{_≡_, refl, sym, ap, _∙_}
+-- `records::entries::full` meets its contract: a refusal changes nothing; else the codes are written and the moves made.
+use mathlib.Core.Path.{refl, ap, _∙_}
 use native.Mathlib.Omega.{arith}
 use lib.ListN.{length}
 use lib.Seq.{sets}
@@ -12,12 +13,6 @@ use Rattle.records.proofs.Verdicting.{full-known, fitting-sized}
 use borrow.Author.Needs.{needs}
 use Rattle.records.proofs.entries.full.Statement.{statement}
 use Rattle.records.proofs.entries.full.Tie as tie
-use Rattle.records.proofs.entries.full.Reads as reads
-use Rattle.records.proofs.entries.full.Lts as lts
-use Rattle.array.proofs.logs.write_codes.Reads as write-codes-reads
-use Rattle.mover.proofs.runs.runs_of.Reads as runs-of-reads
-use Rattle.records.proofs.entries.judge_full.Reads as judge-full-reads
-use Rattle.records.proofs.entries.perform.Reads as perform-reads
 
 judge-full-requires : tie.Need-judge-full-requires
 judge-full-requires c κs = search needs

@@ -1,8 +1,6 @@
-use mathlib.Core.Path.{_≡_, refl, sym, ap, ap₂, _∙_}
-use native.Mathlib.Omega.{arith}
+-- `records::entries::judge_cut` meets its contract: the aims are judged once the marks are good (Verdicting).
+use mathlib.Core.Path.{ap, ap₂, _∙_}
 use lib.ListN.{length}
-use mathlib.Core.List.{List}
-use Rattle.array.specs.declared.moves.Run.{Run}
 use Rattle.array.specs.Answers.{refusing, acceptedBy}
 use Rattle.mover.specs.Runs.{runsOf}
 use Rattle.records.specs.Cases.{aimsCase, cutCase}
@@ -11,17 +9,6 @@ use Rattle.records.proofs.Verdicting.{earlyCut, at-once, none-yet, late
 use borrow.Author.Needs.{needs}
 use Rattle.records.proofs.entries.judge_cut.Statement.{statement}
 use Rattle.records.proofs.entries.judge_cut.Tie as tie
-use Rattle.records.proofs.entries.judge_cut.Reads as reads
-use Rattle.records.proofs.entries.judge_cut.Lts as lts
-use Rattle.array.proofs.answers.accepted.Reads as accepted-reads
-use Rattle.array.proofs.answers.refusing.Reads as refusing-reads
-use Rattle.array.proofs.logs.accepted_by.Reads as accepted-by-reads
-use Rattle.marks.proofs.marks_case.Reads as marks-case-reads
-use Rattle.mover.proofs.runs.runs_of.Reads as runs-of-reads
-use Rattle.records.proofs.judging.aims_case.Reads as aims-case-reads
-use Rattle.records.proofs.judging.cut_case.Reads as cut-case-reads
-use Rattle.records.proofs.judging.first_runs.Reads as first-runs-reads
-use Rattle.records.proofs.judging.refusing_lanes.Reads as refusing-lanes-reads
 
 marks-case-requires : tie.Need-marks-case-requires
 marks-case-requires c κs = search needs

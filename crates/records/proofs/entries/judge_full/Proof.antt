@@ -1,28 +1,13 @@
-use Rattle.records.proofs.Verdicting.{full-halfway}
-use mathlib.Core.Path.{_≡_, refl, sym, ap, ap₂, _∙_}
-use native.Mathlib.Omega.{arith}
+-- `records::entries::judge_full` meets its contract: the aims are judged once the marks are good (Verdicting).
+use Rattle.records.proofs.Verdicting.{full-halfway, earlyFull, at-once, none-yet, later, full-early, refuse-full}
+use mathlib.Core.Path.{ap, ap₂, _∙_}
 use lib.ListN.{length}
-use Rattle.array.specs.declared.moves.Run.{Run}
 use Rattle.array.specs.Answers.{refusing, acceptedBy}
-use Rattle.array.proofs.Board.{side-known}
-use Rattle.marks.specs.Marks.{marksCase}
-use Rattle.marks.proofs.Checked.{good-marks}
 use Rattle.mover.specs.Runs.{runsOf}
 use Rattle.records.specs.Cases.{aimsCase}
-use Rattle.records.proofs.Verdicting.{earlyFull, at-once, none-yet, later, fitting, others, full-early, refuse-full}
 use borrow.Author.Needs.{needs}
 use Rattle.records.proofs.entries.judge_full.Statement.{statement}
 use Rattle.records.proofs.entries.judge_full.Tie as tie
-use Rattle.records.proofs.entries.judge_full.Reads as reads
-use Rattle.records.proofs.entries.judge_full.Lts as lts
-use Rattle.array.proofs.answers.accepted.Reads as accepted-reads
-use Rattle.array.proofs.answers.refusing.Reads as refusing-reads
-use Rattle.array.proofs.logs.accepted_by.Reads as accepted-by-reads
-use Rattle.array.proofs.logs.log_case.Reads as log-case-reads
-use Rattle.marks.proofs.marks_case.Reads as marks-case-reads
-use Rattle.mover.proofs.runs.runs_of.Reads as runs-of-reads
-use Rattle.records.proofs.judging.aims_case.Reads as aims-case-reads
-use Rattle.records.proofs.judging.refusing_lanes.Reads as refusing-lanes-reads
 
 runs-of-requires : tie.Need-runs-of-requires
 runs-of-requires c κs = search needs

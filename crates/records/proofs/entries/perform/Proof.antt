@@ -1,15 +1,8 @@
+-- `records::entries::perform` meets its contract: five lanes are cleared, and the mover takes the records along their course (Performing).
 use Rattle.records.proofs.Performing.{performing}
 use borrow.Author.Needs.{needs}
 use Rattle.records.proofs.entries.perform.Statement.{statement}
 use Rattle.records.proofs.entries.perform.Tie as tie
-use Rattle.records.proofs.entries.perform.Reads as reads
-use Rattle.records.proofs.entries.perform.Lts as lts
-use Rattle.clearing.proofs.keep_aims.Reads as keep-aims-reads
-use Rattle.clearing.proofs.keep_words.Reads as keep-words-reads
-use Rattle.clearing.proofs.zero_aims.Reads as zero-aims-reads
-use Rattle.clearing.proofs.zero_marks.Reads as zero-marks-reads
-use Rattle.clearing.proofs.zero_words.Reads as zero-words-reads
-use Rattle.mover.proofs.runs.run.Reads as run-reads
 
 keep-words-requires : tie.Need-keep-words-requires
 keep-words-requires c κs = search needs

@@ -1,14 +1,12 @@
+-- `records::judging::aims_case` meets its contract: cell after cell, with the rank and the aim before it carried along (Judged).
 use Prim.Native.Nat.{_-_, _≤_}
-use mathlib.Core.Path.{_≡_, refl, sym, ap, _∙_}
+use mathlib.Core.Path.{_≡_, refl}
 use native.Mathlib.Omega.{arith}
 use borrow.Author.Needs.{needs}
 use lib.ListN.{length}
 use Rattle.records.proofs.Judged.{Judging, judging-start, judging-next, judging-bad, judging-good}
 use Rattle.records.proofs.judging.aims_case.Statement.{statement}
 use Rattle.records.proofs.judging.aims_case.Tie as tie
-use Rattle.records.proofs.judging.aims_case.Reads as reads
-use Rattle.records.proofs.judging.aims_case.Lts as lts
-use Rattle.records.proofs.judging.bad.Reads as bad-reads
 
 abbrev Inv-loop : tie.InvT-loop
 Inv-loop back side marks aims n rank₀ previous₀ i₀ rank previous i = (i ≤ n) × (n ≡ length marks) × Judging back side marks aims rank previous i

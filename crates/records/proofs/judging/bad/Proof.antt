@@ -1,10 +1,7 @@
+-- `records::judging::bad` meets its contract: by the list that is judged.
 use borrow.Author.Needs.{needs}
 use Rattle.records.proofs.judging.bad.Statement.{statement}
 use Rattle.records.proofs.judging.bad.Tie as tie
-use Rattle.records.proofs.judging.bad.Reads as reads
-use Rattle.records.proofs.judging.bad.Lts as lts
-use Rattle.records.proofs.judging.bad_aim.Reads as bad-aim-reads
-use Rattle.records.proofs.judging.bad_rank.Reads as bad-rank-reads
 
 bad-aim-requires : tie.Need-bad-aim-requires
 bad-aim-requires c κs = search needs

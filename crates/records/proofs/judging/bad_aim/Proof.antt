@@ -1,3 +1,4 @@
+-- `records::judging::bad_aim` meets its contract: by the mark, what is before the cell, the aim and the aim before it.
 use mathlib.Core.Path.{_≡_, sym, ap, _∙_}
 use mathlib.Core.Bool.{true, false}
 use native.Mathlib.Omega.{arith}
@@ -6,10 +7,6 @@ use Rattle.array.specs.Cells.{isCell}
 use borrow.Author.Needs.{needs}
 use Rattle.records.proofs.judging.bad_aim.Statement.{statement}
 use Rattle.records.proofs.judging.bad_aim.Tie as tie
-use Rattle.records.proofs.judging.bad_aim.Reads as reads
-use Rattle.records.proofs.judging.bad_aim.Lts as lts
-use Rattle.array.proofs.cells.is_cell.Reads as is-cell-reads
-use Rattle.records.proofs.judging.wide.Reads as wide-reads
 
 returns : tie.Need-returns
 returns c = rw (ne-eqb _ _ (c .if1 .taken))

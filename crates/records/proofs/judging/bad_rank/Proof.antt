@@ -1,11 +1,8 @@
-use mathlib.Core.Path.{_≡_, sym, ap, _∙_}
+-- `records::judging::bad_rank` meets its contract: by the mark, and then by the rank.
 use borrow.Author.Tests.{eq-eqb, ne-eqb}
 use borrow.Author.Needs.{needs}
 use Rattle.records.proofs.judging.bad_rank.Statement.{statement}
 use Rattle.records.proofs.judging.bad_rank.Tie as tie
-use Rattle.records.proofs.judging.bad_rank.Reads as reads
-use Rattle.records.proofs.judging.bad_rank.Lts as lts
-use Rattle.records.proofs.judging.wide.Reads as wide-reads
 
 returns : tie.Need-returns
 returns c = rw (ne-eqb _ _ (c .if1 .taken))

@@ -1,10 +1,7 @@
-use mathlib.Core.Path.{ap}
+-- `records::judging::cut_case` meets its contract: by the moves of the list.
 use borrow.Author.Needs.{needs}
 use Rattle.records.proofs.judging.cut_case.Statement.{statement}
 use Rattle.records.proofs.judging.cut_case.Tie as tie
-use Rattle.records.proofs.judging.cut_case.Reads as reads
-use Rattle.records.proofs.judging.cut_case.Lts as lts
-use Rattle.records.proofs.judging.is_beyond.Reads as is-beyond-reads
 
 is-beyond-requires : tie.Need-is-beyond-requires
 is-beyond-requires c κs = search needs

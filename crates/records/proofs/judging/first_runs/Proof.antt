@@ -1,18 +1,13 @@
+-- `records::judging::first_runs` meets its contract: run after run, with the moves that are left carried along (Judged).
 use mathlib.Core.Path.{ap}
 use Prim.Native.Nat.{_-_}
-use mathlib.Core.Path.{_≡_, refl, sym, _∙_}
 use native.Mathlib.Omega.{arith}
 use borrow.Author.Needs.{needs}
 use lib.ListN.{length}
-use Rattle.array.specs.declared.moves.Run.{Run}
 use Rattle.array.specs.declared.moves.Move.the-variants.{Swap}
 use Rattle.records.proofs.Judged.{Cutting, cutting-start, cutting-next, cutting-end}
 use Rattle.records.proofs.judging.first_runs.Statement.{statement}
 use Rattle.records.proofs.judging.first_runs.Tie as tie
-use Rattle.records.proofs.judging.first_runs.Reads as reads
-use Rattle.records.proofs.judging.first_runs.Lts as lts
-use Rattle.array.proofs.lists.no_runs.Reads as no-runs-reads
-use Rattle.records.proofs.judging.fewer.Reads as fewer-reads
 
 abbrev Inv-loop : tie.InvT-loop
 Inv-loop cut runs firsts₀ left₀ q₀ firsts left q = Cutting cut runs firsts left q

@@ -1,12 +1,10 @@
-use mathlib.Core.Path.{_≡_, sym, _∙_}
+-- `records::judging::is_beyond` meets its contract: only of a side that is built.
+use mathlib.Core.Path.{sym, _∙_}
 use native.Mathlib.Omega.{arith}
 use Rattle.array.proofs.Board.{side-known}
 use borrow.Author.Needs.{needs}
 use Rattle.records.proofs.judging.is_beyond.Statement.{statement}
 use Rattle.records.proofs.judging.is_beyond.Tie as tie
-use Rattle.records.proofs.judging.is_beyond.Reads as reads
-use Rattle.records.proofs.judging.is_beyond.Lts as lts
-use Rattle.array.proofs.cells.is_side.Reads as is-side-reads
 
 is-side-requires : tie.Need-is-side-requires
 is-side-requires c κs = search needs

@@ -1,14 +1,10 @@
-use Rattle.array.specs.Answers.{refusing, sideCase, laneCase}
-use mathlib.Core.Path.{_≡_, sym, ap, ap₂, _∙_}
+-- `records::judging::refusing_lanes` meets its contract: case after case in the order of their numbers.
+use Rattle.array.specs.Answers.{refusing}
+use mathlib.Core.Path.{ap, ap₂, _∙_}
 use Rattle.array.specs.declared.answers.Case.{Case}
 use borrow.Author.Needs.{needs}
 use Rattle.records.proofs.judging.refusing_lanes.Statement.{statement}
 use Rattle.records.proofs.judging.refusing_lanes.Tie as tie
-use Rattle.records.proofs.judging.refusing_lanes.Reads as reads
-use Rattle.records.proofs.judging.refusing_lanes.Lts as lts
-use Rattle.array.proofs.answers.lane_case.Reads as lane-case-reads
-use Rattle.array.proofs.answers.refusing.Reads as refusing-reads
-use Rattle.array.proofs.answers.side_case.Reads as side-case-reads
 
 lane-case-requires : tie.Need-lane-case-requires
 lane-case-requires c κs = search needs

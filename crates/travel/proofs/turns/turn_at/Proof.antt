@@ -1,16 +1,15 @@
+-- `travel::turns::turn_at` meets its contract: the runs are gone through until the move is among those of one.
 use Prim.Native.Nat.{_+_, _-_, _≤_}
-use mathlib.Core.Path.{_≡_, refl, sym, ap, _∙_}
+use mathlib.Core.Path.{_≡_, refl, sym, _∙_}
 use native.Mathlib.Omega.{arith}
-use lib.ListN.{drop, getD, length}
+use lib.ListN.{drop, getD}
 use borrow.Author.Needs.{needs}
 use Rattle.array.specs.declared.moves.Move.the-variants.{Swap}
 use Rattle.array.specs.declared.moves.Run.{Run}
 use Rattle.travel.specs.Turns.{turnIn}
-use Rattle.travel.proofs.Listed.{inRun, turn-found, turn-next, turn-none, few-swaps}
+use Rattle.travel.proofs.Listed.{turn-found, turn-next, turn-none, few-swaps}
 use Rattle.travel.proofs.turns.turn_at.Statement.{statement}
 use Rattle.travel.proofs.turns.turn_at.Tie as tie
-use Rattle.travel.proofs.turns.turn_at.Reads as reads
-use Rattle.travel.proofs.turns.turn_at.Lts as lts
 
 abbrev nothing : Run
 nothing = record { step = Swap; times = 0 }
