@@ -1,3 +1,4 @@
+-- `trials::data_sum` is safe and ends.
 use mathlib.Core.Path.{sym}
 use lib.Seq.{length-take-le}
 use borrow.Author.Needs.{needs}

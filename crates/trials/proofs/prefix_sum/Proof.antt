@@ -1,3 +1,4 @@
+-- `trials::prefix_sum` is safe and ends.
 use mathlib.Core.Path.{sym}
 use lib.Seq.{length-take-le}
 use borrow.Author.Needs.{needs}

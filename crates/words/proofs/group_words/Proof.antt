@@ -1,3 +1,4 @@
+-- `words::group_words` meets its contract: the stretch lies inside the lane where the answer accepts.
 use lib.ListN.{length, take, drop}
 use native.Mathlib.Nat.{add-zero}
 use Prim.Native.Nat.{_+_, _-_}

@@ -1,3 +1,4 @@
+-- `words::prefix_sum` meets its contract: refused, all is as it was; accepted, the lane holds what the program gives.
 use Rattle.words.proofs.Answering.{Room, prefix-sum-room, entry-refused}
 use Rattle.words.proofs.Entering.{prefix-sum-done}
 use borrow.Author.Needs.{needs}

@@ -1,3 +1,4 @@
+-- `words::slides::shift_mesh` meets its contract: the scratch lane is as long as the words.
 use mathlib.Core.Path.{_∙_, sym}
 use lib.Seq.{length-take-le}
 use Rattle.words.proofs.Composing.{Sizes, sizes}

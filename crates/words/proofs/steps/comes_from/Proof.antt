@@ -1,3 +1,4 @@
+-- `words::steps::comes_from` meets its contract: by cases on the way.
 use native.Mathlib.Omega.{arith}
 use native.Mathlib.Nat.{mod-lt, div-le-self}
 use mathlib.Core.Path.{_∙_}

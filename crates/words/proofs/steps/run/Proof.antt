@@ -1,3 +1,4 @@
+-- `words::steps::run` meets its contract: move by move, by `run-next`.
 use Prim.Native.Nat.{_≤_, _-_}
 use native.Mathlib.Omega.{arith}
 use mathlib.Core.Path.{_≡_, refl, sym, _∙_}

@@ -1,3 +1,4 @@
+-- `words::steps::step_all` meets its contract: group by group, by `Changed`.
 use Prim.Native.Nat.{_≤_, _-_}
 use native.Mathlib.Omega.{arith}
 use mathlib.Core.Path.{sym, _∙_}

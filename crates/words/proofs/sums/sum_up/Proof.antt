@@ -1,3 +1,4 @@
+-- `words::sums::sum_up` meets its contract: the scratch lanes are as long as the words.
 use mathlib.Core.Path.{_∙_, sym}
 use lib.Seq.{length-take-le}
 use Rattle.words.proofs.Composing.{Sizes, sizes}
