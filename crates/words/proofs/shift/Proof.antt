@@ -6,8 +6,7 @@ use lib.IntN.{ℤ}
 use lib.ListN.{length}
 use Rattle.array.specs.Shifts.{shiftRuns}
 use Rattle.words.specs.Entries.{shiftAnswer}
-use Rattle.array.specs.Shifts.{distanceOf, forthMoves, backMoves}
-use Rattle.words.proofs.Answering.{Room, ShiftRoom, shift-room, entry-refused}
+use Rattle.words.proofs.Answering.{shift-room, entry-refused}
 use Rattle.words.proofs.Entering.{shift-done, forth-times, home-times, forth-few, back-few}
 use borrow.Author.Needs.{needs}
 use Rattle.words.proofs.shift.Statement.{statement}

@@ -1,5 +1,4 @@
 -- `words::sums::rows_and_columns` meets its contract: steps 1 and 2.
-use native.Mathlib.Omega.{arith}
 use Rattle.words.proofs.Composing.{rows-columns-moved}
 use borrow.Author.Needs.{needs}
 use Rattle.words.proofs.sums.rows_and_columns.Statement.{statement}
