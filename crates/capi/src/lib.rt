@@ -1,0 +1,70 @@
+// What bench software written in C calls; include/otis.h declares it. A slice passes as a pointer and then a length. Nothing holds a
+// C declaration to these signatures, so the boundary trusts the header, which tests alone check.
+use array::answers::Answer;
+use ranking::rank;
+use records::entries::concentrate;
+use records::entries::distribute;
+ghost use mathlib.Core.Bool.{true, false};
+ghost use Rattle.ranking.specs.Entries.{Ranked};
+ghost use Rattle.records.specs.Entries.{FullRun};
+
+#[no_mangle]
+pub extern "C" fn otis_rank(side: usize, marks: &[u8], aims: &mut [u16], codes: &mut [u8]) -> Answer
+    ensures { λ r. ⌜ Ranked side (now (marks .entry)) (now (aims .entry)) (now (codes .entry)) r (now (aims .exit)) (now (codes .exit)) ⌝ }
+{
+    rank(side, marks, aims, codes)
+}
+
+#[no_mangle]
+pub extern "C" fn otis_concentrate(
+    side: usize,
+    words: &mut [u32],
+    marks: &mut [u8],
+    aims: &mut [u16],
+    spare_words: &mut [u32],
+    spare_marks: &mut [u8],
+    spare_aims: &mut [u16],
+    codes: &mut [u8],
+    moved: &mut [u16],
+) -> Answer
+    ensures { λ r. ⌜ FullRun false side (now (words .entry)) (now (marks .entry)) (now (aims .entry)) (now («spare_words» .entry)) (now («spare_marks» .entry)) (now («spare_aims» .entry)) (now (words .exit)) (now (marks .exit)) (now (aims .exit)) (now («spare_words» .exit)) (now («spare_marks» .exit)) (now («spare_aims» .exit)) (now (codes .entry)) (now (codes .exit)) (now (moved .entry)) (now (moved .exit)) r ⌝ }
+{
+    concentrate(
+        side,
+        words,
+        marks,
+        aims,
+        spare_words,
+        spare_marks,
+        spare_aims,
+        codes,
+        moved,
+    )
+}
+
+#[no_mangle]
+pub extern "C" fn otis_distribute(
+    side: usize,
+    words: &mut [u32],
+    marks: &mut [u8],
+    aims: &mut [u16],
+    spare_words: &mut [u32],
+    spare_marks: &mut [u8],
+    spare_aims: &mut [u16],
+    codes: &mut [u8],
+    moved: &mut [u16],
+) -> Answer
+    ensures { λ r. ⌜ FullRun true side (now (words .entry)) (now (marks .entry)) (now (aims .entry)) (now («spare_words» .entry)) (now («spare_marks» .entry)) (now («spare_aims» .entry)) (now (words .exit)) (now (marks .exit)) (now (aims .exit)) (now («spare_words» .exit)) (now («spare_marks» .exit)) (now («spare_aims» .exit)) (now (codes .entry)) (now (codes .exit)) (now (moved .entry)) (now (moved .exit)) r ⌝ }
+{
+    distribute(
+        side,
+        words,
+        marks,
+        aims,
+        spare_words,
+        spare_marks,
+        spare_aims,
+        codes,
+        moved,
+    )
+}

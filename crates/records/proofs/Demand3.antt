@@ -1,0 +1,239 @@
+-- The records of concentrate, for every side and every choice of marks, as they are in the lanes. After each single move the records present are exactly those
+-- that were marked at the start, each once with its word and rank, each in the cell that the move rule gives; no cell holds more than two; at the end the record of
+-- rank r stands by itself in cell r; and the list has exactly 7(s − 1) electronic moves and two by light.
+-- A cell's slots are its front lanes and its spare lanes. What concentrate promises of its lanes after n moves is `Stood false s n` (specs/Entries.antt), so each
+-- theorem here begins from that promise, and from marks and aims that were not refused, `Good` (what that is for concentrate says `Ranked`).
+use Prim.Native.Nat.{ℕ, zero, suc, _+_, _-_, _*_, _≤_, _<_}
+use mathlib.Core.Path.{_≡_, refl, sym, ap, _∙_}
+use mathlib.Core.Bool.{Bool, true, false}
+use mathlib.Core.Logic.{_⊎_, inl, inr, ⊎-elim}
+use mathlib.Core.List.{List, map}
+use native.Mathlib.Nat.{sub-self}
+use native.Mathlib.Omega.{arith}
+use lib.ListN.{length, getD}
+use Rattle.laws.proofs.Deciding.{apart}
+use Rattle.array.specs.declared.moves.Way.{Way}
+use Rattle.array.specs.declared.answers.Answer.{Answer}
+use Rattle.array.specs.Answers.{acceptedBy}
+use Rattle.array.proofs.Board.{side-known}
+use Rattle.mover.specs.Runs.{runsOf}
+use Rattle.array.specs.Cells.{cells, group}
+use Rattle.array.specs.Moves.{moves, electronic, swaps}
+use Rattle.array.specs.Lists.{concentrateRuns, distributeRuns}
+use Rattle.array.proofs.Counts.{concentrate-electronic, concentrate-swaps, concentrate-length}
+use Rattle.travel.specs.Travel.{toward, heading, stands}
+use Rattle.travel.proofs.Collide.{at-the-end}
+use Rattle.travel.proofs.Range.{same-group, heading<}
+use Rattle.mesh.specs.declared.cells.Rec.{Rec}
+use Rattle.mesh.specs.declared.cells.Cell.{Cell}
+use Rattle.mesh.specs.Cells.{nothing, empty, alone, cellAt}
+use Rattle.course.specs.Showing.{contentOf, Shows}
+use Rattle.course.proofs.Holds.{Holds, hold0, hold1, hold2, holds-one}
+use Rattle.course.proofs.Content.{Rising, Fits, At, content-holds}
+use Rattle.course.proofs.Course.{shows-same}
+use Rattle.course.proofs.Standing.{below, fits}
+use Rattle.marks.specs.Marks.{rankIn}
+use Rattle.records.specs.Cases.{totalMoves}
+use Rattle.records.specs.Records.{markedCell, countIn, recordOf, cellOf}
+use Rattle.records.specs.Cuts.{firstRuns}
+use Rattle.records.specs.Entries.{Good, Stood, FullRun, CutRun}
+use Rattle.records.proofs.Verdicting.{FullKnown, full-known, cut-known}
+use Rattle.records.proofs.Aims.{Ranked, Aimed, good-ranked, good-aimed}
+use Rattle.records.proofs.Marked.{start-rises, start-inside, start-aims, start-rising, cell-of, rank-past, Found, found, first-rising, aims-rise, fits-alone}
+
+-- the slots of a cell: the front lanes, or the spare ones
+pub data Slot : Type 0 where
+  Front : Slot
+  Spare : Slot
+
+abbrev pub slot : Slot → Cell → Rec
+slot Front c = c .front
+slot Spare c = c .spare
+
+-- b records R that stand at pos, in the slots of the cells T of a board
+pub record Present (s b : ℕ) (R : ℕ → Rec) (pos : ℕ → ℕ) (T : ℕ → Cell) : Type 0 where
+  -- every record is in a slot of its cell, and in no other slot of any cell
+  pub somewhere : (r : ℕ) → r < b → (f : Slot) × (slot f (T (pos r)) ≡ R r)
+  pub once : (r : ℕ) → r < b → (f g : Slot) (i j : ℕ) → i < cells s → j < cells s → slot f (T i) ≡ R r → slot g (T j) ≡ R r → (i ≡ j) × (f ≡ g)
+  -- a slot that is marked holds a record that stands there, and no other slot holds anything
+  pub nothing-else : (f : Slot) (j : ℕ) → j < cells s → ((r : ℕ) × (r < b) × (pos r ≡ j) × (slot f (T j) ≡ R r)) ⊎ (slot f (T j) ≡ nothing)
+  -- of two records in a cell the one with the smaller aim is in front, and a single one is in front
+  pub in-order : (r r′ : ℕ) (j : ℕ) → j < cells s → r < b → r′ < b → T j .front ≡ R r → T j .spare ≡ R r′ → r < r′
+  pub single-in-front : (j : ℕ) → j < cells s → T j .front ≡ nothing → T j .spare ≡ nothing
+  -- and each is in a cell of the board
+  pub in-range : (r : ℕ) → r < b → pos r < cells s
+
+-- records of rising aims are told apart by them
+same-record : {b : ℕ} {R : ℕ → Rec} → Rising b R → (r r′ : ℕ) → r < b → r′ < b → R r ≡ R r′ → r ≡ r′
+same-record z r r′ h h′ e =
+    ⊎-elim
+    (λ l. absurd (omega (arith, z .rising r r′ l h′, ap (λ (x : Rec). x .aim) e)))
+    (λ l. ⊎-elim (λ m. absurd (omega (arith, z .rising r′ r m h, ap (λ (x : Rec). x .aim) e))) (λ m. omega arith) (apart r′ r))
+    (apart r r′)
+
+module _ {s b : ℕ} {R : ℕ → Rec} {pos : ℕ → ℕ} {T : ℕ → Cell} (z : Rising b R) (f : Fits b pos) (inside : (r : ℕ) → r < b → pos r < cells s) (o : Shows s b R pos T) where
+  holds : (j : ℕ) → j < cells s → Holds R (At b pos j) (T j)
+  holds j u = go (content-holds z pos f j)
+    where
+      go : Holds R (At b pos j) (contentOf b R pos j) → Holds R (At b pos j) (T j)
+      go (hold0 e n) = hold0 (o .cells j u ∙ e) n
+      go (hold1 i e p n) = hold1 i (o .cells j u ∙ e) p n
+      go (hold2 i k e l p q n) = hold2 i k (o .cells j u ∙ e) l p q n
+
+  marked-not : (r : ℕ) → r < b → nothing ≡ R r → ⊥
+  marked-not r h e = omega (arith, z .marked r h, ap (λ (x : Rec). x .mark) e)
+
+  find : (j r : ℕ) → r < b → pos r ≡ j → Holds R (At b pos j) (T j) → (f : Slot) × (slot f (T j) ≡ R r)
+  find j r h e (hold0 c n) = absurd (n r (h, e))
+  find j r h e (hold1 i c p n) = (Front, ap (λ (x : Cell). x .front) c ∙ ap R (sym (n r (h, e))))
+  find j r h e (hold2 i k c l p q n) =
+      ⊎-elim (λ x. (Front, ap (λ (x : Cell). x .front) c ∙ ap R (sym x))) (λ x. (Spare, ap (λ (x : Cell). x .spare) c ∙ ap R (sym x))) (n r (h, e))
+
+  held : (g : Slot) (j : ℕ) → Holds R (At b pos j) (T j) → ((r : ℕ) × (r < b) × (pos r ≡ j) × (slot g (T j) ≡ R r)) ⊎ (slot g (T j) ≡ nothing)
+  held Front j (hold0 c n) = inr (ap (λ (x : Cell). x .front) c)
+  held Spare j (hold0 c n) = inr (ap (λ (x : Cell). x .spare) c)
+  held Front j (hold1 i c p n) = inl (i, p .0, p .1, ap (λ (x : Cell). x .front) c)
+  held Spare j (hold1 i c p n) = inr (ap (λ (x : Cell). x .spare) c)
+  held Front j (hold2 i k c l p q n) = inl (i, p .0, p .1, ap (λ (x : Cell). x .front) c)
+  held Spare j (hold2 i k c l p q n) = inl (k, q .0, q .1, ap (λ (x : Cell). x .spare) c)
+
+  order : (r r′ j : ℕ) → r < b → r′ < b → T j .front ≡ R r → T j .spare ≡ R r′ → Holds R (At b pos j) (T j) → r < r′
+  order r r′ j h h′ e e′ (hold0 c n) = absurd (marked-not r h (sym (ap (λ (x : Cell). x .front) c) ∙ e))
+  order r r′ j h h′ e e′ (hold1 i c p n) = absurd (marked-not r′ h′ (sym (ap (λ (x : Cell). x .spare) c) ∙ e′))
+  order r r′ j h h′ e e′ (hold2 i k c l p q n) =
+      omega (arith, same-record z r i h (p .0) (sym e ∙ ap (λ (x : Cell). x .front) c), same-record z r′ k h′ (q .0) (sym e′ ∙ ap (λ (x : Cell). x .spare) c))
+
+  lone : (j : ℕ) → T j .front ≡ nothing → Holds R (At b pos j) (T j) → T j .spare ≡ nothing
+  lone j e (hold0 c n) = ap (λ (x : Cell). x .spare) c
+  lone j e (hold1 i c p n) = ap (λ (x : Cell). x .spare) c
+  lone j e (hold2 i k c l p q n) = absurd (marked-not i (p .0) (sym e ∙ ap (λ (x : Cell). x .front) c))
+
+  -- a slot that holds a record is one of the record's cell
+  stands-at : (r : ℕ) → r < b → (g : Slot) (j : ℕ) → j < cells s → slot g (T j) ≡ R r → pos r ≡ j
+  stands-at r h g j u e =
+      ⊎-elim
+      (λ x. ap pos (same-record z r (x .0) h (x .1) (sym e ∙ x .3)) ∙ x .2)
+      (λ x. absurd (marked-not r h (sym x ∙ e)))
+      (held g j (holds j u))
+
+  one-slot : (r : ℕ) → r < b → (f g : Slot) (j : ℕ) → j < cells s → slot f (T j) ≡ R r → slot g (T j) ≡ R r → f ≡ g
+  one-slot r h Front Front j u e e′ = refl
+  one-slot r h Front Spare j u e e′ = absurd (omega (arith, order r r j h h e e′ (holds j u)))
+  one-slot r h Spare Front j u e e′ = absurd (omega (arith, order r r j h h e′ e (holds j u)))
+  one-slot r h Spare Spare j u e e′ = refl
+
+  one-place : (r : ℕ) → r < b → (f g : Slot) (i j : ℕ) → i < cells s → j < cells s → slot f (T i) ≡ R r → slot g (T j) ≡ R r → (i ≡ j) × (f ≡ g)
+  one-place r h f g i j u v e e′ =
+      let p : i ≡ j = sym (stands-at r h f i u e) ∙ stands-at r h g j v e′ in
+      (p, one-slot r h f g j v (ap (λ (k : ℕ). slot f (T k)) (sym p) ∙ e) e′)
+
+  present : Present s b R pos T
+  present = record {
+    somewhere = λ r h. find (pos r) r h refl (holds (pos r) (inside r h));
+    once = one-place;
+    nothing-else = λ g j u. held g j (holds j u);
+    in-order = λ r r′ j u h h′ e e′. order r r′ j h h′ e e′ (holds j u);
+    single-in-front = λ j u e. lone j e (holds j u);
+    in-range = inside;
+  }
+
+-- a record alone in its cell, and a cell with none
+module _ {s b : ℕ} {R : ℕ → Rec} {pos : ℕ → ℕ} {T : ℕ → Cell} (z : Rising b R) (up : (i j : ℕ) → i < j → j < b → pos i < pos j) (o : Shows s b R pos T) where
+  apart-fits : Fits b pos
+  apart-fits = fits-alone (λ i j u l e. omega (arith, up i j l u))
+
+  only : (r k : ℕ) → r < b → k < b → pos k ≡ pos r → k ≡ r
+  only r k h u e = ⊎-elim (λ l. absurd (omega (arith, up k r l h))) (λ l. ⊎-elim (λ m. absurd (omega (arith, up r k m u))) (λ m. omega arith) (apart r k)) (apart k r)
+
+  alone-at : (r : ℕ) → r < b → pos r < cells s → T (pos r) ≡ alone (R r)
+  alone-at r h u = o .cells (pos r) u ∙ holds-one (content-holds z pos apart-fits (pos r)) (hold1 r refl (h, refl) (λ k q. only r k h (q .0) (q .1)))
+
+  none-at : (j : ℕ) → j < cells s → ((r : ℕ) → r < b → pos r ≡ j → ⊥) → T j ≡ empty
+  none-at j u n = o .cells j u ∙ holds-one (content-holds z pos apart-fits j) (hold0 refl (λ k q. n k (q .0) (q .1)))
+
+-- the records of concentrate
+module _ {s : ℕ} (pos : 0 < s) {marks aims : List ℕ} (long : length marks ≡ cells s) (good : Good false s marks aims) (words : List ℕ) where
+  ranked : Ranked s marks aims
+  ranked = good-ranked s marks aims long good
+
+  -- they are those of the marked cells, each once: record r is that of the marked cell of rank r, with its word, and its aim is r
+  pub records-marked : (r : ℕ) → r < countIn s marks → Found marks (cells s) r (markedCell marks (cells s) r)
+  records-marked r h = found marks (cells s) r (ranked .mark) h
+
+  pub records-all : (i : ℕ) → i < cells s → getD marks i 0 ≡ 1 → (rankIn marks i < countIn s marks) × (markedCell marks (cells s) (rankIn marks i) ≡ i)
+  records-all i h e = (rank-past marks i (cells s) h e, cell-of marks (cells s) i h e)
+
+  pub records-ranked : (r : ℕ) → r < countIn s marks → recordOf false s words marks aims r .aim ≡ r
+  records-ranked = start-aims s words marks aims ranked
+
+  -- after n moves: exactly these records, each once, each where the move rule takes it, in range, two in a cell at most
+  pub present-after : (n : ℕ) {T : ℕ → Cell} → Stood false s n words marks aims T → Present s (countIn s marks) (recordOf false s words marks aims) (cellOf false s marks aims n) T
+  present-after n o =
+      present (start-rising s words marks aims ranked) (fits s (countIn s marks) pos (markedCell marks (cells s)) (start-rises s words marks aims ranked) (start-inside s words marks aims ranked) n)
+      (below s (countIn s marks) pos (markedCell marks (cells s)) (start-rises s words marks aims ranked) (start-inside s words marks aims ranked) n) o
+
+  -- never three in a cell
+  pub two-at-most : (n i j k : ℕ) → i < j → j < k → k < countIn s marks → cellOf false s marks aims n i ≡ cellOf false s marks aims n j → cellOf false s marks aims n j ≡ cellOf false s marks aims n k → ⊥
+  two-at-most n = fits s (countIn s marks) pos (markedCell marks (cells s)) (start-rises s words marks aims ranked) (start-inside s words marks aims ranked) n
+
+  -- at the end the record of rank r stands by itself in cell r, and all else is empty
+  ended : {T : ℕ → Cell} → Stood false s (totalMoves s) words marks aims T → Shows s (countIn s marks) (recordOf false s words marks aims) (λ r. r) T
+  ended o = shows-same (λ r h. at-the-end s (countIn s marks) pos (markedCell marks (cells s)) (start-rises s words marks aims ranked) (start-inside s words marks aims ranked) r h) o
+
+  pub end-alone : {T : ℕ → Cell} → Stood false s (totalMoves s) words marks aims T → (r : ℕ) → r < countIn s marks → r < cells s → T r ≡ alone (recordOf false s words marks aims r)
+  end-alone o r h u = alone-at (start-rising s words marks aims ranked) (λ i j l _. l) (ended o) r h u
+
+  pub end-empty : {T : ℕ → Cell} → Stood false s (totalMoves s) words marks aims T → (j : ℕ) → j < cells s → countIn s marks ≤ j → T j ≡ empty
+  end-empty o j u l = none-at (start-rising s words marks aims ranked) (λ i j l _. l) (ended o) j u (λ r h e. omega arith)
+
+-- an electronic move leaves a record in its group
+pub stays-in-group : (s : ℕ) → 0 < s → (w : Way) (swaps r i : ℕ) → r < cells s → group s (toward s w (heading s swaps r) i) ≡ group s i
+stays-in-group s pos w swaps r i h = same-group s pos w (heading s swaps r) i (heading< s pos swaps r h)
+
+-- the list has exactly 7(s − 1) electronic moves and two by light
+pub list-electronic : (s : ℕ) → electronic (concentrateRuns s) ≡ 7 * (s - 1)
+list-electronic = concentrate-electronic
+
+pub list-swaps : (s : ℕ) → swaps (concentrateRuns s) ≡ 2
+list-swaps = concentrate-swaps
+
+pub list-length : (s : ℕ) → length (moves (concentrateRuns s)) ≡ totalMoves s
+list-length = concentrate-length
+
+-- the records of distribute, which goes the same ways back
+module _ {s : ℕ} (pos : 0 < s) {marks aims : List ℕ} (long : length marks ≡ cells s) (good : Good true s marks aims) (words : List ℕ) where
+  aimed : Aimed s (countIn s marks) marks aims
+  aimed = good-aimed s marks aims long good
+
+  pub distribute-present : (n : ℕ) {T : ℕ → Cell} → Stood true s n words marks aims T → Present s (countIn s marks) (recordOf true s words marks aims) (cellOf true s marks aims n) T
+  distribute-present n o =
+      present (first-rising s words marks aims aimed) (fits s (countIn s marks) pos (λ r. getD aims r 0) (aimed .rising) (aimed .below) (totalMoves s - n))
+      (below s (countIn s marks) pos (λ r. getD aims r 0) (aimed .rising) (aimed .below) (totalMoves s - n)) o
+
+  arrived : {T : ℕ → Cell} → Stood true s (totalMoves s) words marks aims T → Shows s (countIn s marks) (recordOf true s words marks aims) (λ r. getD aims r 0) T
+  arrived o = shows-same (λ r h. rw (sub-self (totalMoves s))) o
+
+  -- at the end each is alone in the cell that its aim names, and every cell that no aim names is empty
+  pub distribute-alone : {T : ℕ → Cell} → Stood true s (totalMoves s) words marks aims T → (r : ℕ) → r < countIn s marks → T (getD aims r 0) ≡ alone (recordOf true s words marks aims r)
+  distribute-alone o r h = alone-at (first-rising s words marks aims aimed) (aims-rise s words marks aims aimed) (arrived o) r h (aimed .below r h)
+
+  pub distribute-empty : {T : ℕ → Cell} → Stood true s (totalMoves s) words marks aims T → (j : ℕ) → j < cells s → ((r : ℕ) → r < countIn s marks → getD aims r 0 ≡ j → ⊥) → T j ≡ empty
+  distribute-empty o j u n = none-at (first-rising s words marks aims aimed) (aims-rise s words marks aims aimed) (arrived o) j u n
+
+-- the same of what the entries promise: of the lanes of an accepted run, whole or up to a cut
+module _ {s : ℕ} {w m a w₂ m₂ a₂ w′ m′ a′ w₂′ m₂′ a₂′ : List ℕ} {r : Answer} where
+  pub cut-records : {cut : ℕ} → CutRun false s cut w m a w₂ m₂ a₂ w′ m′ a′ w₂′ m₂′ a₂′ r → r .number ≡ 0
+      → Present s (countIn s m) (recordOf false s w m a) (cellOf false s m a cut) (cellAt w′ m′ a′ w₂′ m₂′ a₂′)
+  cut-records {cut} z h =
+      let k = cut-known false s cut (length w) (length m) (length a) (length w₂) (length m₂) (length a₂) m a (acceptedBy (firstRuns cut (runsOf false s))) (z .answer) h in
+      present-after (side-known s (k .fits .side) .least) (k .fits .marks) (k .good) w cut (z .accepted h)
+
+  module _ {codes codes′ moved moved′ : List ℕ} (z : FullRun false s w m a w₂ m₂ a₂ w′ m′ a′ w₂′ m₂′ a₂′ codes codes′ moved moved′ r) (h : r .number ≡ 0) where
+    known : FullKnown false s (length w) (length m) (length a) (length w₂) (length m₂) (length a₂) m a
+    known = full-known false s (length w) (length m) (length a) (length w₂) (length m₂) (length a₂) (length codes) (length moved) m a (acceptedBy (runsOf false s)) (z .answer) h
+
+    pub full-alone : (k : ℕ) → k < countIn s m → k < cells s → cellAt w′ m′ a′ w₂′ m₂′ a₂′ k ≡ alone (recordOf false s w m a k)
+    full-alone = end-alone (side-known s (known .fits .side) .least) (known .fits .marks) (known .good) w (z .accepted h .stood)
+
+    pub full-empty : (j : ℕ) → j < cells s → countIn s m ≤ j → cellAt w′ m′ a′ w₂′ m₂′ a₂′ j ≡ empty
+    full-empty = end-empty (side-known s (known .fits .side) .least) (known .fits .marks) (known .good) w (z .accepted h .stood)

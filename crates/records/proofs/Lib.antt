@@ -1,0 +1,6 @@
+pub mod Aims
+pub mod Demand3
+pub mod Judged
+pub mod Marked
+pub mod Performing
+pub mod Verdicting
