@@ -1,21 +1,20 @@
 -- Prefix sum: the nine steps give the prefix sums. Each lane of the steps by itself, the machine's registers as these lanes, and the sums
 -- that the lanes hold.
-use Prim.Native.Nat.{ℕ, zero, suc, _+_, _-_, _*_, _%_, _^_, _≤_, _<_}
+use Prim.Native.Nat.{ℕ, suc, _+_, _-_, _%_, _^_, _≤_, _<_}
 use mathlib.Core.Path.{_≡_, refl, sym, ap, ap₂, _∙_, fun-ext}
-use mathlib.Core.List.{List, [], _∷_, _++_}
+use mathlib.Core.List.{List}
 use native.Mathlib.Omega.{arith}
 use native.Mathlib.Nat.{add-mod, mod-eq-of-lt}
 use lib.ListN.{getD}
 use Rattle.laws.specs.Sums.{sum}
-use Rattle.array.specs.declared.moves.Way.{Way}
 use Rattle.array.specs.declared.moves.Way.the-variants.{Right, Left, Up, Down}
 use Rattle.array.specs.Lists.{prefixSumRuns}
-use Rattle.words.specs.Machine.{State, Stage, all, made, runsOf, at, load, unload}
-use Rattle.words.specs.Programs.{from, light, word, copy, plus, minus, Sums, loadSums, addRow, addColumn, takeGroup, addGroups, addGroupRows, rowsAbove, takeAbove, groupsBefore, takeBefore, rowBefore, takeRow, unloadSums, prefixSum, prefixed}
+use Rattle.words.specs.Machine.{State, all, runsOf, at, load, unload}
+use Rattle.words.specs.Programs.{from, light, word, copy, plus, minus, Sums, loadSums, addRow, addColumn, takeGroup, addGroups, addGroupRows, rowsAbove, takeAbove, groupsBefore, takeBefore, rowBefore, takeRow, prefixSum, prefixed}
 use Rattle.words.specs.Results.{prefixSumWords}
 use Rattle.words.specs.Inside.{swapped, summed, copied, modified, finished}
 use Rattle.words.proofs.Coordinates.{unload-by, sum-to}
-use Rattle.words.proofs.Lines.{acc, right-all, down-all, left-all, up-all}
+use Rattle.words.proofs.Lines.{right-all, down-all, left-all, up-all}
 use Rattle.words.proofs.Spreading.{acc-copy, acc-plus}
 use Rattle.words.proofs.Views.{lane, from-view, from-keeps, from-stays}
 

@@ -1,12 +1,12 @@
 -- The answers of the entries: their counts, and what is known where they accept.
-use Prim.Native.Nat.{ℕ, zero, suc, _+_, _-_, _*_, _^_, _≤_, _<_}
+use Prim.Native.Nat.{ℕ, _+_, _-_, _*_, _^_, _≤_, _<_}
 use mathlib.Core.Path.{_≡_, refl, sym, ap, ap₂, _∙_}
-use mathlib.Core.Bool.{Bool, true, false, cond, not, _&&_}
+use mathlib.Core.Bool.{Bool, true, false}
 use mathlib.Core.List.{List, [], _∷_, _++_}
 use native.Mathlib.Omega.{arith}
 use lib.IntN.{ℤ}
-use lib.Dec.{ltb, eqb}
-use lib.ListN.{length, take, drop, length-map}
+use lib.Dec.{ltb}
+use lib.ListN.{length, drop, length-map}
 use lib.Seq.{sets, sets-eq}
 use borrow.Author.Tests.{not-false, ltb-true, ltb-false, eqb-true, eq-eqb, ne-eqb}
 use Rattle.laws.proofs.Bools.{both-left, both-right}
@@ -23,9 +23,9 @@ use Rattle.array.specs.Moves.{moves, codes, codeOf, electronic, swaps}
 use Rattle.array.specs.Lists.{broadcastList, broadcastRuns, dataSumRuns, prefixSumRuns}
 use Rattle.array.specs.Shifts.{distanceOf, within, forthMoves, backMoves, swapsOf, shiftList, shiftRuns}
 use Rattle.array.specs.Answers.{accepted, refusing, verdict, whereAccepted, sideCase, laneCase, logCase, acceptedBy}
-use Rattle.array.proofs.Board.{Side, side-known, OnBoard, cell-known}
+use Rattle.array.proofs.Board.{Side, side-known, cell-known}
 use Rattle.array.proofs.Counts.{data-sum-electronic, prefix-sum-electronic, broadcast-electronic, zero-fill-electronic, circular-electronic, shift-swaps}
-use Rattle.array.proofs.Verdicts.{NoneApplies, AllRefuse, none-applies, accepted-counts}
+use Rattle.array.proofs.Verdicts.{NoneApplies, none-applies, accepted-counts}
 use Rattle.words.specs.Inside.{Board}
 use Rattle.words.specs.Entries.{cellCase, distanceCase, groupCase, shiftElectronic, broadcastAnswer, dataSumAnswer, prefixSumAnswer, shiftAnswer, groupAnswer, logged, Entry}
 

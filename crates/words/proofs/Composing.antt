@@ -1,7 +1,7 @@
 -- Lanes cell by cell and by swaps, and how the code's parts make up the programs.
-use Prim.Native.Nat.{ℕ, zero, suc, _+_, _-_, _*_, _%_, _^_, _≤_, _<_}
-use mathlib.Core.Path.{_≡_, refl, sym, ap, ap₂, _∙_}
-use mathlib.Core.Bool.{Bool, true, false, cond, _&&_}
+use Prim.Native.Nat.{ℕ, _+_, _-_, _*_, _%_, _^_, _≤_, _<_}
+use mathlib.Core.Path.{_≡_, refl, ap, ap₂, _∙_}
+use mathlib.Core.Bool.{true, cond}
 use mathlib.Core.List.{List}
 use native.Mathlib.Omega.{arith}
 use native.Mathlib.Decide.{ℕ-discrete}
@@ -12,7 +12,7 @@ use native.Mathlib.Nat.{mul-pos}
 use borrow.Author.Tests.{le-leb, eq-eqb, eqb-true}
 use Rattle.laws.proofs.Bools.{both-left, both-right}
 use Rattle.laws.proofs.Numbers.{square-grows, fourth-grows}
-use Rattle.laws.proofs.Tables.{entries-all, entry-at, length-entries}
+use Rattle.laws.proofs.Tables.{entries-all, entry-at}
 use Rattle.array.specs.declared.moves.Way.the-variants.{Right, Left, Up, Down}
 use Rattle.array.specs.declared.moves.Way.{Way}
 use Rattle.array.specs.declared.shifts.Edge.{Edge}
@@ -23,13 +23,13 @@ use Rattle.light.specs.Lane.{isBoard, swappedLane}
 use Rattle.words.specs.declared.lanes.Combining.{Combining}
 use Rattle.words.specs.declared.lanes.Combining.the-variants.{Take, Plus, Minus}
 use Rattle.words.specs.declared.steps.Joining.the-variants.{Add, Copy, Fill}
-use Rattle.words.specs.Machine.{State, Stage, all, made, at}
-use Rattle.words.specs.Programs.{minus, plus, position, groupSum, dataSum, spread, broadcast, prefixed}
-use Rattle.words.specs.Inside.{Board, Holds, Moved, running, cellwise, combineOf, Combined, swapped, summed, copied, RowsAndColumns, GroupSums, modified, Modified, finished, Finished, slide, takes, meshShift, chosen}
+use Rattle.words.specs.Machine.{State, all, made, at}
+use Rattle.words.specs.Programs.{minus, position, groupSum, dataSum, spread, broadcast, prefixed}
+use Rattle.words.specs.Inside.{Board, Holds, Moved, running, cellwise, combineOf, Combined, swapped, summed, RowsAndColumns, GroupSums, Modified, Finished, takes, meshShift, chosen}
 use lib.Arith.{digits-div, digits-mod}
 use Rattle.words.specs.Machine.{load, unload}
 use Rattle.words.specs.Results.{prefixSumWords}
-use Rattle.words.proofs.Adding.{P₉, parts-are, prefixSum-lanes, prefixSum-all}
+use Rattle.words.proofs.Adding.{parts-are, prefixSum-lanes, prefixSum-all}
 use Rattle.words.proofs.Coordinates.{place<, at<, partner-at, holds-load, unloaded}
 
 -- a difference that wraps

@@ -1,13 +1,13 @@
 -- Where an entry accepts, the lane holds the result.
-use Prim.Native.Nat.{ℕ, suc, _+_, _-_, _*_, _^_, _≤_, _<_}
+use Prim.Native.Nat.{ℕ, _+_, _*_, _^_, _≤_, _<_}
 use mathlib.Core.Path.{_≡_, refl, sym, ap, _∙_}
 use mathlib.Core.Bool.{Bool, true, false}
-use mathlib.Core.List.{List, [], _∷_}
+use mathlib.Core.List.{List}
 use native.Mathlib.Omega.{arith}
 use native.Mathlib.Nat.{mul-le-mul-right, suc-mul}
 use lib.IntN.{ℤ}
 use lib.Dec.{ltb}
-use lib.ListN.{length, getD, take, drop}
+use lib.ListN.{length, getD}
 use lib.Seq.{sets}
 use borrow.Author.Tests.{ltb-true}
 use Rattle.laws.proofs.Bools.{both-left, both-right}
@@ -17,17 +17,16 @@ use Rattle.array.specs.declared.shifts.Axis.{Axis}
 use Rattle.array.specs.declared.shifts.Edge.{Edge}
 use Rattle.array.specs.declared.shifts.Edge.the-variants.{ZeroFill, Circular}
 use Rattle.array.specs.declared.shifts.Distance.{Distance}
-use Rattle.array.specs.Cells.{groups, cells}
-use Rattle.array.specs.Moves.{codes, swapping}
+use Rattle.array.specs.Cells.{groups}
+use Rattle.array.specs.Moves.{codes}
 use Rattle.array.specs.Lists.{broadcastRuns, dataSumRuns, prefixSumRuns}
 use Rattle.array.specs.Shifts.{distanceOf, within, modulo, forthMoves, backMoves, shiftRuns}
 use Rattle.words.specs.Machine.{made, load, unload}
 use Rattle.words.specs.Programs.{broadcast, dataSum, prefixed}
-use Rattle.words.specs.Results.{broadcastWords, dataSumWords, prefixSumWords, shiftWords}
-use Rattle.words.specs.Inside.{Board, Moved, shiftOn}
-use Rattle.words.specs.Entries.{broadcastAnswer, dataSumAnswer, prefixSumAnswer, shiftAnswer, groupAnswer, Broadcast, DataSum, PrefixSum, Shift}
+use Rattle.words.specs.Inside.{Moved, shiftOn}
+use Rattle.words.specs.Entries.{broadcastAnswer, dataSumAnswer, prefixSumAnswer, shiftAnswer, Broadcast, DataSum, PrefixSum, Shift}
 use Rattle.words.proofs.Adding.{prefixSum-all}
-use Rattle.words.proofs.Answering.{Room, data-sum-room, prefix-sum-room, BroadcastRoom, broadcast-room, ShiftRoom, shift-room, GroupRoom, group-room, entry-done}
+use Rattle.words.proofs.Answering.{data-sum-room, prefix-sum-room, broadcast-room, ShiftRoom, shift-room, GroupRoom, entry-done}
 use Rattle.words.proofs.Composing.{moved-words}
 use Rattle.words.proofs.Shifting.{shift-lane, shift-all}
 use Rattle.words.proofs.Spreading.{broadcast-all, dataSum-all}

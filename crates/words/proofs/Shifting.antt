@@ -1,16 +1,15 @@
 -- The eight shifts: the listed moves give the result.
-use Prim.Native.Nat.{ℕ, zero, suc, _+_, _-_, _*_, _%_, _≤_, _<_}
+use Prim.Native.Nat.{ℕ, zero, suc, _+_, _-_, _%_, _≤_, _<_}
 use mathlib.Core.Path.{_≡_, refl, sym, ap, ap₂, _∙_, fun-ext}
 use mathlib.Core.Bool.{Bool, true, false, cond, _&&_}
-use mathlib.Core.Option.{Option, none, some}
-use mathlib.Core.List.{List, [], _∷_, _++_}
+use mathlib.Core.List.{List}
 use native.Mathlib.Omega.{arith}
 use native.Mathlib.Decide.{decLt}
 use native.Mathlib.Nat.{add-mod-right, mod-eq-of-lt}
 use lib.IntN.{ℤ, pos, negsuc}
 use lib.Dec.{ltb}
 use borrow.Author.Tests.{lt-ltb, le-ltb, ltb-true}
-use Rattle.laws.proofs.Bools.{both-left, both-right}
+use Rattle.laws.proofs.Bools.{both-left}
 use Rattle.array.specs.declared.moves.Way.{Way}
 use Rattle.array.specs.declared.moves.Way.the-variants.{Right, Left, Up, Down}
 use Rattle.array.specs.declared.shifts.Axis.{Axis}
@@ -19,8 +18,8 @@ use Rattle.array.specs.declared.shifts.Edge.{Edge}
 use Rattle.array.specs.declared.shifts.Edge.the-variants.{ZeroFill, Circular}
 use Rattle.array.specs.Moves.{moves, along, opposite}
 use Rattle.array.specs.declared.shifts.Distance.{Distance}
-use Rattle.array.specs.Shifts.{distanceOf, within, modulo, forthMoves, backMoves, forthWay, swapsOf, shiftList}
-use Rattle.words.specs.Machine.{State, Rule, Stage, fromBefore, fromAfter, ran, all, made, runsOf, load, unload}
+use Rattle.array.specs.Shifts.{distanceOf, within, modulo, forthMoves, backMoves, shiftList}
+use Rattle.words.specs.Machine.{State, Stage, fromBefore, fromAfter, ran, all, runsOf, load, unload}
 use Rattle.words.specs.Programs.{position, Shifting, loadShift, filled, forth, takesBack, back, shift, shiftedBy}
 use Rattle.words.specs.Results.{cameFrom, wordFrom, shifted, shiftWords}
 use Rattle.words.specs.Inside.{slide, takes, meshShift, shiftOn}

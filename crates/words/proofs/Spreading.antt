@@ -1,19 +1,18 @@
 -- Broadcast and data sum: the listed moves give the result.
-use Prim.Native.Nat.{ℕ, zero, suc, _+_, _-_, _*_, _%_, _^_, _≤_, _<_}
+use Prim.Native.Nat.{ℕ, zero, suc, _+_, _-_, _%_, _^_, _≤_, _<_}
 use mathlib.Core.Path.{_≡_, refl, sym, ap, _∙_}
-use mathlib.Core.List.{List, [], _∷_, _++_}
+use mathlib.Core.List.{List}
 use native.Mathlib.Omega.{arith}
 use native.Mathlib.Decide.{decLe}
 use native.Mathlib.Nat.{zero-add, add-comm, add-mod, mod-eq-of-lt}
-use lib.ListN.{getD, replicate}
+use lib.ListN.{getD}
 use Rattle.laws.specs.Sums.{sum}
-use Rattle.laws.proofs.Sums.{sum-cong}
-use Rattle.array.specs.Cells.{cells, group, place, row, column}
+use Rattle.array.specs.Cells.{cells, group, row, column}
 use Rattle.array.specs.Moves.{moves}
 use Rattle.array.specs.Lists.{broadcastList, dataSumRuns}
 use Rattle.array.specs.declared.moves.Way.the-variants.{Right, Left, Up, Down}
-use Rattle.words.specs.Machine.{State, Rule, Stage, fromBefore, fromAfter, ran, all, made, runsOf, at, load, unload}
-use Rattle.words.specs.Programs.{front, from, light, word, copy, plus, spread, broadcast, groupSum, dataSum}
+use Rattle.words.specs.Machine.{State, Rule, fromBefore, fromAfter, all, made, runsOf, at, load, unload}
+use Rattle.words.specs.Programs.{front, word, copy, plus, spread, broadcast, groupSum, dataSum}
 use Rattle.words.specs.Results.{broadcastWords, dataSumWords}
 use Rattle.words.proofs.Coordinates.{c-in, d-in, a-in, b-in, at-is, unload-same, sum-cells}
 use Rattle.words.proofs.Lines.{line, plain, acc, before-on, before-off, after-on}

@@ -1,5 +1,5 @@
 -- A move of every group's own stretch is a move of the machine, and a run is a stage.
-use Prim.Native.Nat.{ℕ, zero, suc, _+_, _-_, _*_, _/_, _%_, _≤_, _<_}
+use Prim.Native.Nat.{ℕ, zero, suc, _+_, _-_, _*_, _≤_, _<_}
 use mathlib.Core.Path.{_≡_, refl, sym, ap, ap₂, _∙_}
 use mathlib.Core.Bool.{Bool, true, false, cond}
 use mathlib.Core.Option.{Option, none, some}
@@ -7,23 +7,22 @@ use mathlib.Core.List.{List}
 use native.Mathlib.Omega.{arith}
 use native.Mathlib.Numerals.{add-one}
 use native.Mathlib.Nat.{suc-mul}
-use lib.Arith.{digits-lt, digits-div, digits-mod}
+use lib.Arith.{digits-div, digits-mod}
 use lib.Dec.{ltb}
-use lib.ListN.{length, getD}
-use borrow.Author.Tests.{lt-ltb, le-ltb, ltb-true}
+use lib.ListN.{getD}
+use borrow.Author.Tests.{lt-ltb, ltb-true}
 use Rattle.laws.proofs.Blocks.{block, block-at, Changed}
 use Rattle.laws.proofs.Tables.{entry-at}
 use Rattle.array.specs.declared.moves.Way.{Way}
 use Rattle.array.specs.declared.moves.Way.the-variants.{Right, Left, Up, Down}
 use Rattle.array.specs.declared.moves.Move.the-variants.{Electronic}
-use Rattle.array.specs.Cells.{groups, cells, row, column}
+use Rattle.array.specs.Cells.{groups, row, column}
 use Rattle.words.specs.declared.steps.Joining.{Joining}
 use Rattle.words.specs.declared.steps.Rule.{Rule}
-use Rattle.words.specs.declared.steps.Source.{Source}
 use Rattle.words.specs.declared.steps.Source.the-variants.{At, Nothing}
-use Rattle.words.specs.Machine.{State, Stage, receive, fromBefore, fromAfter, make, ran, all, at}
-use Rattle.words.specs.Programs.{position, stepsOn, word}
-use Rattle.words.specs.Inside.{Board, Holds, Moved, ruleOf, sourceOf, wordAt, nextOf, stepped, steppedAll, running}
+use Rattle.words.specs.Machine.{State, Stage, receive, fromBefore, fromAfter, ran, all, at}
+use Rattle.words.specs.Programs.{position, stepsOn}
+use Rattle.words.specs.Inside.{Moved, ruleOf, sourceOf, wordAt, nextOf, stepped, steppedAll, running}
 use Rattle.words.proofs.Coordinates.{place<}
 
 -- what comes to a place is what the machine's cell receives

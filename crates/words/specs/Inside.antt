@@ -9,7 +9,7 @@ use lib.Dec.{ltb}
 use Rattle.laws.specs.Tables.{entries}
 use Rattle.array.specs.declared.moves.Way.{Way}
 use Rattle.array.specs.declared.moves.Way.the-variants.{Right, Left, Up, Down}
-use Rattle.array.specs.declared.moves.Move.the-variants.{Swap, Electronic}
+use Rattle.array.specs.declared.moves.Move.the-variants.{Electronic}
 use Rattle.array.specs.declared.shifts.Axis.{Axis}
 use Rattle.array.specs.declared.shifts.Axis.the-variants.{MeshRow, MeshColumn, GroupRow, GroupColumn}
 use Rattle.array.specs.declared.shifts.Edge.{Edge}

@@ -1,7 +1,7 @@
 -- The machine of the word operations. A state gives the registers of each cell, by the row and the column of its group and its own row and
 -- column. In a move every cell hands on one word, which it works out of its registers, and its registers become what a rule makes of its
 -- place, the move's number, its own registers and the one word that it receives, if any.
-use Prim.Native.Nat.{ℕ, zero, suc, _+_, _*_, _/_, _%_}
+use Prim.Native.Nat.{ℕ, zero, suc, _+_, _*_}
 use mathlib.Core.Bool.{cond}
 use mathlib.Core.Option.{Option, none, some}
 use mathlib.Core.List.{List, [], _∷_, map}

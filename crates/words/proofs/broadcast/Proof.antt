@@ -1,4 +1,5 @@
-use Rattle.words.proofs.Answering.{Room, BroadcastRoom, broadcast-room, entry-refused}
+-- `words::broadcast` meets its contract: refused, all is as it was; accepted, the lane holds what the program gives.
+use Rattle.words.proofs.Answering.{broadcast-room, entry-refused}
 use Rattle.words.proofs.Entering.{broadcast-done}
 use borrow.Author.Needs.{needs}
 use Rattle.words.proofs.broadcast.Statement.{statement}

@@ -1,4 +1,5 @@
-use Rattle.words.proofs.Answering.{Room, data-sum-room, entry-refused}
+-- `words::data_sum` meets its contract: refused, all is as it was; accepted, the lane holds what the program gives.
+use Rattle.words.proofs.Answering.{data-sum-room, entry-refused}
 use Rattle.words.proofs.Entering.{data-sum-done}
 use borrow.Author.Needs.{needs}
 use Rattle.words.proofs.data_sum.Statement.{statement}

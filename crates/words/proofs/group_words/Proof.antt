@@ -1,13 +1,13 @@
+-- `words::group_words` meets its contract: the stretch lies inside the lane where the answer accepts.
 use lib.ListN.{length, take, drop}
-use native.Mathlib.Nat.{add-zero}
 use Prim.Native.Nat.{_+_, _-_}
 use mathlib.Core.Path.{_≡_}
 use Prim.Native.Nat.{_*_}
 use mathlib.Core.Path.{_∙_, sym, ap}
 use native.Mathlib.Omega.{arith}
 use Rattle.array.specs.Cells.{groups}
-use Rattle.words.proofs.Answering.{GroupRoom, group-room, left-old, left-new}
-use Rattle.words.proofs.Composing.{Sizes, sizes}
+use Rattle.words.proofs.Answering.{group-room, left-old, left-new}
+use Rattle.words.proofs.Composing.{sizes}
 use Rattle.words.proofs.Entering.{group-inside}
 use borrow.Author.Needs.{needs}
 use Rattle.words.proofs.group_words.Statement.{statement}

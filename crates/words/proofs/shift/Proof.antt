@@ -1,3 +1,4 @@
+-- `words::shift` meets its contract: refused, all is as it was; accepted, the lane holds what the program gives, by the moves of its list.
 use mathlib.Core.Path.{_∙_, ap}
 use mir.Syntax.{w32}
 use mir.ValLaws.{toZ-ofZ}
@@ -5,8 +6,7 @@ use lib.IntN.{ℤ}
 use lib.ListN.{length}
 use Rattle.array.specs.Shifts.{shiftRuns}
 use Rattle.words.specs.Entries.{shiftAnswer}
-use Rattle.array.specs.Shifts.{distanceOf, forthMoves, backMoves}
-use Rattle.words.proofs.Answering.{Room, ShiftRoom, shift-room, entry-refused}
+use Rattle.words.proofs.Answering.{shift-room, entry-refused}
 use Rattle.words.proofs.Entering.{shift-done, forth-times, home-times, forth-few, back-few}
 use borrow.Author.Needs.{needs}
 use Rattle.words.proofs.shift.Statement.{statement}
@@ -22,7 +22,11 @@ shift-answer-requires : tie.Need-shift-answer-requires
 shift-answer-requires c κs = search needs
 
 returns : tie.Need-returns
-returns c = entry-refused _ _ _ _ _ _ (c .before .before .shift-answer .ensures ∙ ap (λ (z : ℤ). shiftAnswer (c .before .before .before .before .before .args .side) (c .before .before .before .before .before .args .axis) (c .before .before .before .before .before .args .edge) z (length (c .before .before .before .before .before .args .words .now)) (length (c .before .before .before .before .before .args .codes .now))) (toZ-ofZ w32 (c .before .before .before .before .before .args .k) (c .before .before .before .before .before .fits .k))) (c .if1 .taken)
+returns c =
+    let a = c .before .before .before .before .before .args in
+    let read = toZ-ofZ w32 (a .k) (c .before .before .before .before .before .fits .k) in
+    let answer = c .before .before .shift-answer .ensures ∙ ap (λ (z : ℤ). shiftAnswer (a .side) (a .axis) (a .edge) z (length (a .words .now)) (length (a .codes .now))) read in
+    entry-refused _ _ _ _ _ _ answer (c .if1 .taken)
 
 shift-runs-requires : tie.Need-shift-runs-requires
 shift-runs-requires c κs = search needs
@@ -35,11 +39,15 @@ array-copy-out-home c = search needs
 
 shift-all-requires : tie.Need-shift-all-requires
 shift-all-requires c κs =
-    let z = shift-room (c .before .before .before .before .before .before .before .before .before .args .side) (c .before .before .before .before .before .before .before .before .before .args .axis) (c .before .before .before .before .before .before .before .before .before .args .edge) (c .before .before .before .before .before .before .before .before .before .args .k) _ _ _ (c .before .before .before .before .before .before .shift-answer .ensures ∙ ap (λ (z : ℤ). shiftAnswer (c .before .before .before .before .before .before .before .before .before .args .side) (c .before .before .before .before .before .before .before .before .before .args .axis) (c .before .before .before .before .before .before .before .before .before .args .edge) z (length (c .before .before .before .before .before .before .before .before .before .args .words .now)) (length (c .before .before .before .before .before .before .before .before .before .args .codes .now))) (toZ-ofZ w32 (c .before .before .before .before .before .before .before .before .before .args .k) (c .before .before .before .before .before .before .before .before .before .fits .k))) (c .before .before .before .before .if1 .left) in (
+    let a = c .before .before .before .before .before .before .before .before .before .args in
+    let read = toZ-ofZ w32 (a .k) (c .before .before .before .before .before .before .before .before .before .fits .k) in
+    let answer = c .before .before .before .before .before .before .shift-answer .ensures ∙ ap (λ (z : ℤ). shiftAnswer (a .side) (a .axis) (a .edge) z (length (a .words .now)) (length (a .codes .now))) read in
+    let runs = c .before .before .before .shift-runs .ensures ∙ ap (shiftRuns (a .side) (a .axis) (a .edge)) read in
+    let z = shift-room (a .side) (a .axis) (a .edge) (a .k) _ _ _ answer (c .before .before .before .before .if1 .left) in (
       z .known .board,
       (
-        rw (forth-times (c .before .before .before .before .before .before .before .before .before .args .side) (c .before .before .before .before .before .before .before .before .before .args .axis) (c .before .before .before .before .before .before .before .before .before .args .edge) (c .before .before .before .before .before .before .before .before .before .args .k) _ _ _ _ z (c .before .before .before .shift-runs .ensures ∙ ap (shiftRuns (c .before .before .before .before .before .before .before .before .before .args .side) (c .before .before .before .before .before .before .before .before .before .args .axis) (c .before .before .before .before .before .before .before .before .before .args .edge)) (toZ-ofZ w32 (c .before .before .before .before .before .before .before .before .before .args .k) (c .before .before .before .before .before .before .before .before .before .fits .k)))) (forth-few _ (c .before .before .before .before .before .before .before .before .before .args .edge) _ (z .known .board .most) (z .near)),
-        rw (home-times (c .before .before .before .before .before .before .before .before .before .args .side) (c .before .before .before .before .before .before .before .before .before .args .axis) (c .before .before .before .before .before .before .before .before .before .args .edge) (c .before .before .before .before .before .before .before .before .before .args .k) _ _ _ _ z (c .before .before .before .shift-runs .ensures ∙ ap (shiftRuns (c .before .before .before .before .before .before .before .before .before .args .side) (c .before .before .before .before .before .before .before .before .before .args .axis) (c .before .before .before .before .before .before .before .before .before .args .edge)) (toZ-ofZ w32 (c .before .before .before .before .before .before .before .before .before .args .k) (c .before .before .before .before .before .before .before .before .before .fits .k)))) (back-few _ (c .before .before .before .before .before .before .before .before .before .args .edge) _ (z .known .board .most) (z .near)),
+        rw (forth-times (a .side) (a .axis) (a .edge) (a .k) _ _ _ _ z runs) (forth-few _ (a .edge) _ (z .known .board .most) (z .near)),
+        rw (home-times (a .side) (a .axis) (a .edge) (a .k) _ _ _ _ z runs) (back-few _ (a .edge) _ (z .known .board .most) (z .near)),
       ),
     )
 
@@ -54,9 +62,13 @@ same-length-2 c = search needs
 
 returns-2 : tie.Need-returns-2
 returns-2 c =
-    let z = shift-room (c .before .before .before .before .before .before .before .before .before .before .before .before .before .before .before .before .args .side) (c .before .before .before .before .before .before .before .before .before .before .before .before .before .before .before .before .args .axis) (c .before .before .before .before .before .before .before .before .before .before .before .before .before .before .before .before .args .edge) (c .before .before .before .before .before .before .before .before .before .before .before .before .before .before .before .before .args .k) _ _ _ (c .before .before .before .before .before .before .before .before .before .before .before .before .before .shift-answer .ensures ∙ ap (λ (z : ℤ). shiftAnswer (c .before .before .before .before .before .before .before .before .before .before .before .before .before .before .before .before .args .side) (c .before .before .before .before .before .before .before .before .before .before .before .before .before .before .before .before .args .axis) (c .before .before .before .before .before .before .before .before .before .before .before .before .before .before .before .before .args .edge) z (length (c .before .before .before .before .before .before .before .before .before .before .before .before .before .before .before .before .args .words .now)) (length (c .before .before .before .before .before .before .before .before .before .before .before .before .before .before .before .before .args .codes .now))) (toZ-ofZ w32 (c .before .before .before .before .before .before .before .before .before .before .before .before .before .before .before .before .args .k) (c .before .before .before .before .before .before .before .before .before .before .before .before .before .before .before .before .fits .k))) (c .before .before .before .before .before .before .before .before .before .before .before .if1 .left) in
-    shift-done (c .before .before .before .before .before .before .before .before .before .before .before .before .before .before .before .before .args .side) (c .before .before .before .before .before .before .before .before .before .before .before .before .before .before .before .before .args .words .now) (c .before .before .before .before .before .before .before .before .before .before .before .before .before .before .before .before .args .codes .now) _ _ _ (c .before .before .before .before .before .before .shift-all .kept .0) (c .before .before .before .before .before .before .before .before .before .before .before .before .before .before .before .before .args .axis) (c .before .before .before .before .before .before .before .before .before .before .before .before .before .before .before .before .args .edge) (c .before .before .before .before .before .before .before .before .before .before .before .before .before .before .before .before .args .k) (c .before .before .before .before .before .before .before .before .before .before .before .before .before .shift-answer .ensures ∙ ap (λ (z : ℤ). shiftAnswer (c .before .before .before .before .before .before .before .before .before .before .before .before .before .before .before .before .args .side) (c .before .before .before .before .before .before .before .before .before .before .before .before .before .before .before .before .args .axis) (c .before .before .before .before .before .before .before .before .before .before .before .before .before .before .before .before .args .edge) z (length (c .before .before .before .before .before .before .before .before .before .before .before .before .before .before .before .before .args .words .now)) (length (c .before .before .before .before .before .before .before .before .before .before .before .before .before .before .before .before .args .codes .now))) (toZ-ofZ w32 (c .before .before .before .before .before .before .before .before .before .before .before .before .before .before .before .before .args .k) (c .before .before .before .before .before .before .before .before .before .before .before .before .before .before .before .before .fits .k))) (c .before .before .before .before .before .before .before .before .before .before .before .if1 .left)
-    (rw (forth-times (c .before .before .before .before .before .before .before .before .before .before .before .before .before .before .before .before .args .side) (c .before .before .before .before .before .before .before .before .before .before .before .before .before .before .before .before .args .axis) (c .before .before .before .before .before .before .before .before .before .before .before .before .before .before .before .before .args .edge) (c .before .before .before .before .before .before .before .before .before .before .before .before .before .before .before .before .args .k) _ _ _ _ z (c .before .before .before .before .before .before .before .before .before .before .shift-runs .ensures ∙ ap (shiftRuns (c .before .before .before .before .before .before .before .before .before .before .before .before .before .before .before .before .args .side) (c .before .before .before .before .before .before .before .before .before .before .before .before .before .before .before .before .args .axis) (c .before .before .before .before .before .before .before .before .before .before .before .before .before .before .before .before .args .edge)) (toZ-ofZ w32 (c .before .before .before .before .before .before .before .before .before .before .before .before .before .before .before .before .args .k) (c .before .before .before .before .before .before .before .before .before .before .before .before .before .before .before .before .fits .k))), home-times (c .before .before .before .before .before .before .before .before .before .before .before .before .before .before .before .before .args .side) (c .before .before .before .before .before .before .before .before .before .before .before .before .before .before .before .before .args .axis) (c .before .before .before .before .before .before .before .before .before .before .before .before .before .before .before .before .args .edge) (c .before .before .before .before .before .before .before .before .before .before .before .before .before .before .before .before .args .k) _ _ _ _ z (c .before .before .before .before .before .before .before .before .before .before .shift-runs .ensures ∙ ap (shiftRuns (c .before .before .before .before .before .before .before .before .before .before .before .before .before .before .before .before .args .side) (c .before .before .before .before .before .before .before .before .before .before .before .before .before .before .before .before .args .axis) (c .before .before .before .before .before .before .before .before .before .before .before .before .before .before .before .before .args .edge)) (toZ-ofZ w32 (c .before .before .before .before .before .before .before .before .before .before .before .before .before .before .before .before .args .k) (c .before .before .before .before .before .before .before .before .before .before .before .before .before .before .before .before .fits .k)))) at (c .before .before .before .before .before .before .shift-all .ensures)) (rw (c .before .before .before .before .before .before .before .before .before .before .shift-runs .ensures ∙ ap (shiftRuns (c .before .before .before .before .before .before .before .before .before .before .before .before .before .before .before .before .args .side) (c .before .before .before .before .before .before .before .before .before .before .before .before .before .before .before .before .args .axis) (c .before .before .before .before .before .before .before .before .before .before .before .before .before .before .before .before .args .edge)) (toZ-ofZ w32 (c .before .before .before .before .before .before .before .before .before .before .before .before .before .before .before .before .args .k) (c .before .before .before .before .before .before .before .before .before .before .before .before .before .before .before .before .fits .k))) at (c .before .before .write-codes .ensures))
+    let a = c .before .before .before .before .before .before .before .before .before .before .before .before .before .before .before .before .args in
+    let read = toZ-ofZ w32 (a .k) (c .before .before .before .before .before .before .before .before .before .before .before .before .before .before .before .before .fits .k) in
+    let answer = c .before .before .before .before .before .before .before .before .before .before .before .before .before .shift-answer .ensures ∙ ap (λ (z : ℤ). shiftAnswer (a .side) (a .axis) (a .edge) z (length (a .words .now)) (length (a .codes .now))) read in
+    let runs = c .before .before .before .before .before .before .before .before .before .before .shift-runs .ensures ∙ ap (shiftRuns (a .side) (a .axis) (a .edge)) read in
+    let z = shift-room (a .side) (a .axis) (a .edge) (a .k) _ _ _ answer (c .before .before .before .before .before .before .before .before .before .before .before .if1 .left) in
+    shift-done (a .side) (a .words .now) (a .codes .now) _ _ _ (c .before .before .before .before .before .before .shift-all .kept .0) (a .axis) (a .edge) (a .k) answer (c .before .before .before .before .before .before .before .before .before .before .before .if1 .left)
+    (rw (forth-times (a .side) (a .axis) (a .edge) (a .k) _ _ _ _ z runs, home-times (a .side) (a .axis) (a .edge) (a .k) _ _ _ _ z runs) at (c .before .before .before .before .before .before .shift-all .ensures)) (rw runs at (c .before .before .write-codes .ensures))
 
 pub shift-spec : {M : Type 1} → statement M
 shift-spec =

@@ -1,3 +1,4 @@
+-- `words::answers::broadcast_answer` meets its contract: the four cases in their order, and the counts of the list.
 use Rattle.words.proofs.Answering.{broadcast-counts}
 use borrow.Author.Needs.{needs}
 use Rattle.words.proofs.answers.broadcast_answer.Statement.{statement}

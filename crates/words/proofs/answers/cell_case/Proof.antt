@@ -1,3 +1,4 @@
+-- `words::answers::cell_case` meets its contract: the test is that of the array.
 use borrow.Author.Needs.{needs}
 use Rattle.words.proofs.answers.cell_case.Statement.{statement}
 use Rattle.words.proofs.answers.cell_case.Tie as tie

@@ -1,4 +1,4 @@
-use mathlib.Core.Path.{_∙_, ap₂}
+-- `words::answers::data_sum_answer` meets its contract: the three cases in their order, and the counts of the list.
 use Rattle.words.proofs.Answering.{data-sum-counts}
 use borrow.Author.Needs.{needs}
 use Rattle.words.proofs.answers.data_sum_answer.Statement.{statement}

@@ -1,3 +1,4 @@
+-- `words::answers::distance_case` meets its contract: the test is that of the array, on the distance as the machine reads it.
 use mir.Syntax.{w32}
 use mir.ValLaws.{toZ-ofZ}
 use borrow.Author.Needs.{needs}

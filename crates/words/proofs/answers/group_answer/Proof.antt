@@ -1,3 +1,4 @@
+-- `words::answers::group_answer` meets its contract: the three cases in their order.
 use mathlib.Core.Path.{_∙_, ap}
 use mathlib.Core.List.{[], _∷_}
 use Rattle.array.specs.Answers.{verdict, sideCase, laneCase}

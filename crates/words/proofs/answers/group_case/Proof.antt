@@ -1,3 +1,4 @@
+-- `words::answers::group_case` meets its contract: the test is `is_group`.
 use borrow.Author.Needs.{needs}
 use Rattle.words.proofs.answers.group_case.Statement.{statement}
 use Rattle.words.proofs.answers.group_case.Tie as tie

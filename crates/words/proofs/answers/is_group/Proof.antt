@@ -1,3 +1,4 @@
+-- `words::answers::is_group` meets its contract: a side of 33 bits has more groups than there are numbers.
 use Rattle.array.specs.Cells.{groups}
 use mathlib.Core.Path.{sym}
 use native.Mathlib.Omega.{arith}

@@ -1,3 +1,4 @@
+-- `words::answers::judged` meets its contract: three cases, one after the other.
 use Rattle.words.proofs.Answering.{three-cases}
 use borrow.Author.Needs.{needs}
 use Rattle.words.proofs.answers.judged.Statement.{statement}

@@ -1,3 +1,4 @@
+-- `words::answers::prefix_sum_answer` meets its contract: the three cases in their order, and the counts of the list.
 use Rattle.words.proofs.Answering.{prefix-sum-counts}
 use borrow.Author.Needs.{needs}
 use Rattle.words.proofs.answers.prefix_sum_answer.Statement.{statement}

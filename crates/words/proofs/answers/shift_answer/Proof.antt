@@ -1,3 +1,4 @@
+-- `words::answers::shift_answer` meets its contract: the four cases in their order, and the counts of the list.
 use mir.Syntax.{w32}
 use mir.ValLaws.{toZ-ofZ}
 use Rattle.words.proofs.Answering.{shift-counts}

@@ -1,3 +1,4 @@
+-- `words::lanes::combine` meets its contract: cell by cell, by `Renewed`.
 use Prim.Native.Nat.{_≤_, _-_}
 use native.Mathlib.Omega.{arith}
 use lib.ListN.{length, getD}

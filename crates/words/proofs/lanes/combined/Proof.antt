@@ -1,3 +1,4 @@
+-- `words::lanes::combined` meets its contract: by cases, with the difference that wraps.
 use Rattle.words.proofs.Composing.{minus-is}
 use borrow.Author.Needs.{needs}
 use Rattle.words.proofs.lanes.combined.Statement.{statement}

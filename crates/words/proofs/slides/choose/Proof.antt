@@ -1,13 +1,14 @@
+-- `words::slides::choose` meets its contract: cell by cell, by `Renewed`.
 use Prim.Native.Nat.{_≤_, _-_}
 use native.Mathlib.Omega.{arith}
-use mathlib.Core.Path.{_∙_, ap}
+use mathlib.Core.Path.{_∙_}
 use mathlib.Core.Bool.{cond}
 use lib.ListN.{length, getD}
 use borrow.Author.Needs.{needs}
 use Rattle.array.specs.Cells.{place, row, column}
 use Rattle.words.specs.Programs.{position}
 use Rattle.words.specs.Inside.{takes}
-use Rattle.words.proofs.Composing.{Sizes, sizes, Renewed, renewed-start, renewed-next, renewed-end}
+use Rattle.words.proofs.Composing.{sizes, Renewed, renewed-start, renewed-next, renewed-end}
 use Rattle.words.proofs.slides.choose.Statement.{statement}
 use Rattle.words.proofs.slides.choose.Tie as tie
 use Rattle.words.proofs.slides.choose.Reads as reads

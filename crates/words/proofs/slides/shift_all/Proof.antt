@@ -1,3 +1,4 @@
+-- `words::slides::shift_all` meets its contract: by cases on the axis.
 use borrow.Author.Needs.{needs}
 use Rattle.words.proofs.slides.shift_all.Statement.{statement}
 use Rattle.words.proofs.slides.shift_all.Tie as tie

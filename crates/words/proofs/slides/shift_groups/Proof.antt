@@ -1,3 +1,4 @@
+-- `words::slides::shift_groups` meets its contract: a swap, the shift inside the groups, a swap.
 use Rattle.words.proofs.Composing.{shift-groups-moved}
 use borrow.Author.Needs.{needs}
 use Rattle.words.proofs.slides.shift_groups.Statement.{statement}

@@ -1,3 +1,4 @@
+-- `words::slides::shift_lanes` meets its contract: what went forth, what went home, and the choice between them.
 use Rattle.words.proofs.Composing.{shift-lanes-moved}
 use borrow.Author.Needs.{needs}
 use Rattle.words.proofs.slides.shift_lanes.Statement.{statement}

@@ -1,6 +1,7 @@
-use mathlib.Core.Path.{_∙_, sym}
+-- `words::slides::shift_mesh` meets its contract: the scratch lane is as long as the words.
+use mathlib.Core.Path.{sym}
 use lib.Seq.{length-take-le}
-use Rattle.words.proofs.Composing.{Sizes, sizes}
+use Rattle.words.proofs.Composing.{sizes}
 use borrow.Author.Needs.{needs}
 use Rattle.words.proofs.slides.shift_mesh.Statement.{statement}
 use Rattle.words.proofs.slides.shift_mesh.Tie as tie

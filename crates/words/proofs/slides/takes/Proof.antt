@@ -1,3 +1,4 @@
+-- `words::slides::takes` meets its contract: by cases on the edge.
 use borrow.Author.Tests.{lt-ltb, le-ltb}
 use native.Mathlib.Omega.{arith}
 use borrow.Author.Needs.{needs}

@@ -1,3 +1,4 @@
+-- `words::spreads::spread` meets its contract: four runs, one after the other.
 use Rattle.words.proofs.Composing.{spread-moved}
 use borrow.Author.Needs.{needs}
 use Rattle.words.proofs.spreads.spread.Statement.{statement}

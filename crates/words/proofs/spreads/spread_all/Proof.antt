@@ -1,5 +1,6 @@
+-- `words::spreads::spread_all` meets its contract: two spreads and the swap between them; the coordinates of a cell are inside the side.
 use native.Mathlib.Omega.{arith}
-use Rattle.words.proofs.Composing.{Sizes, sizes, spread-all-moved}
+use Rattle.words.proofs.Composing.{sizes, spread-all-moved}
 use Rattle.words.proofs.Coordinates.{c-in, d-in, a-in, b-in}
 use borrow.Author.Needs.{needs}
 use Rattle.words.proofs.spreads.spread_all.Statement.{statement}

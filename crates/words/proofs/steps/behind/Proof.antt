@@ -1,3 +1,4 @@
+-- `words::steps::behind` meets its contract: by the test of the position.
 use borrow.Author.Tests.{lt-ltb, le-ltb}
 use mathlib.Core.Path.{ap}
 use Rattle.words.specs.declared.steps.Source.{Source}

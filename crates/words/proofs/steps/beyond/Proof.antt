@@ -1,3 +1,4 @@
+-- `words::steps::beyond` meets its contract: by the test of the position.
 use borrow.Author.Tests.{lt-ltb, le-ltb}
 use borrow.Author.Needs.{needs}
 use Rattle.words.proofs.steps.beyond.Statement.{statement}

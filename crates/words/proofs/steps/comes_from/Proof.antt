@@ -1,6 +1,6 @@
+-- `words::steps::comes_from` meets its contract: by cases on the way.
 use native.Mathlib.Omega.{arith}
 use native.Mathlib.Nat.{mod-lt, div-le-self}
-use mathlib.Core.Path.{_∙_}
 use borrow.Author.Needs.{needs}
 use Rattle.words.proofs.steps.comes_from.Statement.{statement}
 use Rattle.words.proofs.steps.comes_from.Tie as tie

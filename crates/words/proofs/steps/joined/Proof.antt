@@ -1,3 +1,4 @@
+-- `words::steps::joined` meets its contract: by cases on the joining and the front.
 use Rattle.words.specs.Programs.{front}
 use borrow.Author.Tests.{eq-eqb, ne-eqb}
 use borrow.Author.Needs.{needs}

@@ -1,3 +1,4 @@
+-- `words::steps::next` meets its contract: what the place has and what comes to it.
 use Rattle.words.proofs.Sweeping.{next-word, next-edge}
 use borrow.Author.Needs.{needs}
 use Rattle.words.proofs.steps.next.Statement.{statement}

@@ -1,3 +1,4 @@
+-- `words::steps::order` meets its contract: by cases on the way.
 use borrow.Author.Needs.{needs}
 use Rattle.words.proofs.steps.order.Statement.{statement}
 use Rattle.words.proofs.steps.order.Tie as tie

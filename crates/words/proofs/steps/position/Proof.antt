@@ -1,3 +1,4 @@
+-- `words::steps::position` meets its contract: by cases on the way.
 use borrow.Author.Needs.{needs}
 use Rattle.words.proofs.steps.position.Statement.{statement}
 use Rattle.words.proofs.steps.position.Tie as tie

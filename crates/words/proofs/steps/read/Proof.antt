@@ -1,3 +1,4 @@
+-- `words::steps::read` meets its contract: past the end there is 0.
 use mathlib.Core.Path.{sym}
 use lib.ListN.{List·getD-eq-default}
 use borrow.Author.Needs.{needs}

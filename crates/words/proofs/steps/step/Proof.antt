@@ -1,3 +1,4 @@
+-- `words::steps::step` meets its contract: turn by turn, by `Swept`: what a place takes has its turn later.
 use borrow.Author.Needs.{needs}
 use Prim.Native.Nat.{_≤_, _-_}
 use native.Mathlib.Omega.{arith}

@@ -1,6 +1,7 @@
+-- `words::steps::step_all` meets its contract: group by group, by `Changed`.
 use Prim.Native.Nat.{_≤_, _-_}
 use native.Mathlib.Omega.{arith}
-use mathlib.Core.Path.{sym, _∙_}
+use mathlib.Core.Path.{_∙_}
 use borrow.Author.Needs.{needs}
 use Rattle.array.specs.Cells.{groups}
 use Rattle.laws.proofs.Numbers.{square-grows}

@@ -1,3 +1,4 @@
+-- `words::steps::steps_on` meets its contract: by cases on the way.
 use borrow.Author.Needs.{needs}
 use Rattle.words.proofs.steps.steps_on.Statement.{statement}
 use Rattle.words.proofs.steps.steps_on.Tie as tie

@@ -1,3 +1,4 @@
+-- `words::steps::unjoined` meets its contract: by cases on the joining.
 use Rattle.words.specs.Programs.{front}
 use borrow.Author.Needs.{needs}
 use Rattle.words.proofs.steps.unjoined.Statement.{statement}

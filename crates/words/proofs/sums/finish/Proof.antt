@@ -1,3 +1,4 @@
+-- `words::sums::finish` meets its contract: steps 6 to 9, one after the other.
 use Rattle.words.proofs.Composing.{finish-moved}
 use borrow.Author.Needs.{needs}
 use Rattle.words.proofs.sums.finish.Statement.{statement}

@@ -1,3 +1,4 @@
+-- `words::sums::group_sum` meets its contract: four runs, one after the other.
 use Rattle.words.proofs.Composing.{group-sum-moved}
 use borrow.Author.Needs.{needs}
 use Rattle.words.proofs.sums.group_sum.Statement.{statement}

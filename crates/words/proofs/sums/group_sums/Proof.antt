@@ -1,3 +1,4 @@
+-- `words::sums::group_sums` meets its contract: step 3 and the sums of step 4, one after the other.
 use mathlib.Core.Path.{_∙_}
 use Rattle.words.proofs.Composing.{group-sums-moved}
 use borrow.Author.Needs.{needs}

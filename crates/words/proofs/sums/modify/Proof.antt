@@ -1,3 +1,4 @@
+-- `words::sums::modify` meets its contract: the rest of step 4, and step 5.
 use Rattle.words.proofs.Composing.{modify-moved}
 use borrow.Author.Needs.{needs}
 use Rattle.words.proofs.sums.modify.Statement.{statement}

@@ -1,3 +1,4 @@
+-- `words::sums::prefix_lanes` meets its contract: the four parts, one after the other.
 use mathlib.Core.Path.{_∙_, sym}
 use Rattle.words.proofs.Composing.{prefix-lanes-moved}
 use borrow.Author.Needs.{needs}

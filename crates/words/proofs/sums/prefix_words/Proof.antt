@@ -1,3 +1,4 @@
+-- `words::sums::prefix_words` meets its contract: on a board the lane holds the prefix sums; else it is left.
 use mathlib.Core.Path.{_∙_, sym}
 use borrow.Author.Tests.{not-true, not-false}
 use Rattle.words.proofs.Composing.{board-known, prefix-words-done}

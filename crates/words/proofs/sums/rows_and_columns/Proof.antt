@@ -1,4 +1,4 @@
-use native.Mathlib.Omega.{arith}
+-- `words::sums::rows_and_columns` meets its contract: steps 1 and 2.
 use Rattle.words.proofs.Composing.{rows-columns-moved}
 use borrow.Author.Needs.{needs}
 use Rattle.words.proofs.sums.rows_and_columns.Statement.{statement}

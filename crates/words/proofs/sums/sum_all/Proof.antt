@@ -1,3 +1,4 @@
+-- `words::sums::sum_all` meets its contract: two group sums and the swap between them.
 use Rattle.words.proofs.Composing.{sum-all-moved}
 use borrow.Author.Needs.{needs}
 use Rattle.words.proofs.sums.sum_all.Statement.{statement}

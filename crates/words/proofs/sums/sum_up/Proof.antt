@@ -1,6 +1,7 @@
-use mathlib.Core.Path.{_∙_, sym}
+-- `words::sums::sum_up` meets its contract: the scratch lanes are as long as the words.
+use mathlib.Core.Path.{sym}
 use lib.Seq.{length-take-le}
-use Rattle.words.proofs.Composing.{Sizes, sizes}
+use Rattle.words.proofs.Composing.{sizes}
 use borrow.Author.Needs.{needs}
 use Rattle.words.proofs.sums.sum_up.Statement.{statement}
 use Rattle.words.proofs.sums.sum_up.Tie as tie
