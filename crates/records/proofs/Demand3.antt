@@ -72,7 +72,7 @@ same-record z r r′ h h′ e =
     (apart r r′)
 
 module _ {s b : ℕ} {R : ℕ → Rec} {pos : ℕ → ℕ} {T : ℕ → Cell} (z : Rising b R) (f : Fits b pos) (inside : (r : ℕ) → r < b → pos r < cells s) (o : Shows s b R pos T) where
-  holds : (j : ℕ) → j < cells s → Holds R (At b pos j) (T j)
+  pub holds : (j : ℕ) → j < cells s → Holds R (At b pos j) (T j)
   holds j u = go (content-holds z pos f j)
     where
       go : Holds R (At b pos j) (contentOf b R pos j) → Holds R (At b pos j) (T j)

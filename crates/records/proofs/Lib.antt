@@ -1,4 +1,5 @@
 pub mod Aims
+pub mod Backwards
 pub mod Demand3
 pub mod Judged
 pub mod Marked
