@@ -1,9 +1,9 @@
 -- Laws of the board: a cell is its group and its place, light joins cells in pairs, and an electronic move stays in its group.
-use Prim.Native.Nat.{ℕ, zero, suc, _+_, _-_, _*_, _/_, _%_, _≤_, _<_}
+use Prim.Native.Nat.{ℕ, zero, suc, _+_, _-_, _*_, _≤_, _<_}
 use mathlib.Core.Path.{_≡_, refl, sym, ap, ap₂, _∙_}
-use mathlib.Core.Bool.{Bool, true, false, cond, _&&_}
+use mathlib.Core.Bool.{Bool, true, false}
 use mathlib.Core.Option.{Option, none, some}
-use native.Mathlib.Nat.{div-add-mod', mod-lt, mul-pos, div-lt-iff-lt-mul, mul-comm, suc-mul}
+use native.Mathlib.Nat.{div-add-mod', mod-lt, mul-pos, div-lt-iff-lt-mul, suc-mul}
 use native.Mathlib.Omega.{arith}
 use lib.Arith.{digits-div, digits-mod, digits-lt}
 use lib.Dec.{ltb, leb}

@@ -20,7 +20,7 @@ use Rattle.array.specs.declared.shifts.Distance.{Distance}
 use Rattle.array.specs.Cells.{cells, group, place}
 use Rattle.array.specs.Moves.{moves, electronicIn, swapsIn, electronic, swaps}
 use Rattle.array.specs.Lists.{broadcastList, dataSumRuns, prefixSumRuns, concentrateRuns, distributeRuns}
-use Rattle.array.specs.Shifts.{within, modulo, forthMoves, backMoves, swapsOf, shiftList}
+use Rattle.array.specs.Shifts.{within, forthMoves, backMoves, swapsOf, shiftList}
 use Rattle.array.proofs.Board.{row-in, column-in, place-in, group-in}
 
 -- every move is electronic or a swap

@@ -1,7 +1,6 @@
 -- Move k of a list.
 use Prim.Native.Nat.{ℕ, zero, suc, _+_, _-_, _≤_, _<_}
 use mathlib.Core.Path.{_≡_, refl, sym, ap, _∙_}
-use mathlib.Core.Bool.{Bool, true, false}
 use mathlib.Core.List.{List, [], _∷_, _++_}
 use native.Mathlib.Nat.{suc-sub-suc}
 use native.Mathlib.Omega.{arith}
@@ -12,7 +11,6 @@ use borrow.Author.Tests.{lt-ltb, le-ltb}
 use Rattle.array.specs.declared.moves.Move.{Move}
 use Rattle.array.specs.declared.moves.Move.the-variants.{Swap}
 use Rattle.array.specs.declared.moves.Run.{Run}
-use Rattle.array.specs.declared.logs.Found.{Found}
 use Rattle.array.specs.declared.logs.Found.the-variants.{Step, Past}
 use Rattle.array.specs.Moves.{codeOf, moves, codes, stepIn, isStep}
 

@@ -1,5 +1,5 @@
 -- Laws of verdicts: an answer with the number 0 says that no case applies, and any other is that of the first case that does.
-use Prim.Native.Nat.{ℕ, _<_}
+use Prim.Native.Nat.{_<_}
 use mathlib.Core.Path.{_≡_, refl}
 use mathlib.Core.Bool.{Bool, true, false}
 use mathlib.Core.List.{List, [], _∷_}

@@ -1,6 +1,6 @@
 -- The array of side s: s * s groups of s * s cells. A mesh joins the cells of a group, and light joins the groups.
 use Prim.Native.Nat.{ℕ, _+_, _-_, _*_, _/_, _%_}
-use mathlib.Core.Bool.{Bool, true, false, cond, _&&_}
+use mathlib.Core.Bool.{Bool, cond, _&&_}
 use mathlib.Core.Option.{Option, none, some}
 use lib.Dec.{ltb, leb}
 use Rattle.array.specs.declared.moves.Way.{Way}

@@ -2,9 +2,9 @@
 use links::link;
 ghost use mathlib.Core.Path.{_≡_};
 ghost use mathlib.Core.Bool.{_&&_};
-ghost use Prim.Native.Nat.{_<_, _≤_};
-ghost use lib.Dec.{ltb, eqb, leb};
-ghost use Rattle.array.specs.Cells.{isSide, isCell, groups as groupsOf, cells as cellsOf, linked};
+ghost use Prim.Native.Nat.{_<_};
+ghost use lib.Dec.{eqb};
+ghost use Rattle.array.specs.Cells.{isSide, isCell, cells as cellsOf, linked};
 
 pub fn is_side(side: usize) -> bool
     ensures { λ r. ⌜ r ≡ isSide side ⌝ }

@@ -1,6 +1,11 @@
 pub mod Bools
+pub mod Deciding
 pub mod Filling
 pub mod Numbers
 pub mod Reversed
+pub mod Setting
 pub mod Stores
+pub mod Sums
 pub mod Tables
+pub mod Totals
+pub mod Trading

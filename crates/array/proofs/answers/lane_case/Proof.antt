@@ -1,9 +1,7 @@
+-- `array::answers::lane_case` meets its contract: the length is that of the board, or the case applies.
 use borrow.Author.Needs.{needs}
 use Rattle.array.proofs.answers.lane_case.Statement.{statement}
 use Rattle.array.proofs.answers.lane_case.Tie as tie
-use Rattle.array.proofs.answers.lane_case.Reads as reads
-use Rattle.array.proofs.answers.lane_case.Lts as lts
-use Rattle.array.proofs.cells.is_cells.Reads as is-cells-reads
 
 is-cells-requires : tie.Need-is-cells-requires
 is-cells-requires c κs = search needs

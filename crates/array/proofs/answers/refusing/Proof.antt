@@ -1,9 +1,7 @@
+-- `array::answers::refusing` meets its contract: the case that applies gives its number and place.
 use borrow.Author.Needs.{needs}
 use Rattle.array.proofs.answers.refusing.Statement.{statement}
 use Rattle.array.proofs.answers.refusing.Tie as tie
-use Rattle.array.proofs.answers.refusing.Reads as reads
-use Rattle.array.proofs.answers.refusing.Lts as lts
-use Rattle.array.proofs.answers.refused.Reads as refused-reads
 
 refused-requires : tie.Need-refused-requires
 refused-requires c κs = search needs

@@ -1,12 +1,10 @@
+-- `array::cells::is_cell` meets its contract: the number of cells of a side that is built fits.
 use mathlib.Core.Path.{sym, _∙_}
 use native.Mathlib.Omega.{arith}
 use Rattle.array.proofs.Board.{side-known}
 use borrow.Author.Needs.{needs}
 use Rattle.array.proofs.cells.is_cell.Statement.{statement}
 use Rattle.array.proofs.cells.is_cell.Tie as tie
-use Rattle.array.proofs.cells.is_cell.Reads as reads
-use Rattle.array.proofs.cells.is_cell.Lts as lts
-use Rattle.array.proofs.cells.is_side.Reads as is-side-reads
 
 is-side-requires : tie.Need-is-side-requires
 is-side-requires c κs = search needs

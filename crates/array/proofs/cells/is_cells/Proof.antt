@@ -1,3 +1,4 @@
+-- `array::cells::is_cells` meets its contract: past side 65,535 no length is the number of cells.
 use Rattle.array.specs.Cells.{cells}
 use mathlib.Core.Path.{sym}
 use native.Mathlib.Omega.{arith}
@@ -6,8 +7,6 @@ use Rattle.laws.proofs.Numbers.{square-grows, fourth-grows}
 use borrow.Author.Needs.{needs}
 use Rattle.array.proofs.cells.is_cells.Statement.{statement}
 use Rattle.array.proofs.cells.is_cells.Tie as tie
-use Rattle.array.proofs.cells.is_cells.Reads as reads
-use Rattle.array.proofs.cells.is_cells.Lts as lts
 
 returns : tie.Need-returns
 returns c = sym (ne-eqb (c .before .args .n) (cells (c .before .args .side)) (λ e. omega (arith, fourth-grows {a = 65536} (c .if1 .taken), e)))

@@ -1,8 +1,7 @@
+-- `array::cells::is_side` meets its contract: both tests, one after the other.
 use borrow.Author.Tests.{le-leb, lt-leb}
 use Rattle.array.proofs.cells.is_side.Statement.{statement}
 use Rattle.array.proofs.cells.is_side.Tie as tie
-use Rattle.array.proofs.cells.is_side.Reads as reads
-use Rattle.array.proofs.cells.is_side.Lts as lts
 
 returns : tie.Need-returns
 returns c = rw (le-leb 1 _ (c .if1 .taken))

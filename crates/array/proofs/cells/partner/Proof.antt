@@ -1,16 +1,14 @@
+-- `array::cells::partner` meets its contract: at side 8 the link list has the rule of the partner; elsewhere it is computed.
 use Prim.Native.Nat.{_<_}
 use mathlib.Core.Path.{_≡_, sym, _∙_}
 use mathlib.Core.Bool.{true}
 use native.Mathlib.Omega.{arith}
 use borrow.Author.Needs.{needs}
 use borrow.Author.Tests.{not-true, not-false, lt-ltb}
-use Rattle.array.specs.Cells.{isCell, groups, cells, partner}
+use Rattle.array.specs.Cells.{isCell, cells, partner}
 use Rattle.array.proofs.Board.{OnBoard, cell-known, partner-in}
 use Rattle.array.proofs.cells.partner.Statement.{statement}
 use Rattle.array.proofs.cells.partner.Tie as tie
-use Rattle.array.proofs.cells.partner.Reads as reads
-use Rattle.array.proofs.cells.partner.Lts as lts
-use Rattle.array.proofs.cells.is_cell.Reads as is-cell-reads
 
 -- what is known past the first test
 board : (c : tie.Else1) → isCell (c .before .before .args .side) (c .before .before .args .cell) ≡ true

@@ -1,3 +1,4 @@
+-- `array::lists::broadcast_runs` meets its contract: two spreads, from the place and from the group, with the swap between.
 use mathlib.Core.Path.{_≡_, sym, _∙_}
 use mathlib.Core.Bool.{true}
 use native.Mathlib.Omega.{arith}
@@ -7,11 +8,6 @@ use Rattle.array.proofs.Board.{OnBoard, cell-known, place-in, group-in}
 use borrow.Author.Needs.{needs}
 use Rattle.array.proofs.lists.broadcast_runs.Statement.{statement}
 use Rattle.array.proofs.lists.broadcast_runs.Tie as tie
-use Rattle.array.proofs.lists.broadcast_runs.Reads as reads
-use Rattle.array.proofs.lists.broadcast_runs.Lts as lts
-use Rattle.array.proofs.cells.is_cell.Reads as is-cell-reads
-use Rattle.array.proofs.lists.no_runs.Reads as no-runs-reads
-use Rattle.array.proofs.lists.spread_runs.Reads as spread-runs-reads
 
 -- what is known past the test
 board : (c : tie.Else1) → isCell (c .before .before .args .side) (c .before .before .args .cell) ≡ true

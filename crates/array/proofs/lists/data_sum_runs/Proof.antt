@@ -1,10 +1,7 @@
+-- `array::lists::data_sum_runs` meets its contract: the steps of its list, each run the whole way.
 use borrow.Author.Needs.{needs}
 use Rattle.array.proofs.lists.data_sum_runs.Statement.{statement}
 use Rattle.array.proofs.lists.data_sum_runs.Tie as tie
-use Rattle.array.proofs.lists.data_sum_runs.Reads as reads
-use Rattle.array.proofs.lists.data_sum_runs.Lts as lts
-use Rattle.array.proofs.lists.one_less.Reads as one-less-reads
-use Rattle.array.proofs.lists.whole_runs.Reads as whole-runs-reads
 
 one-less-requires : tie.Need-one-less-requires
 one-less-requires c κs = search needs

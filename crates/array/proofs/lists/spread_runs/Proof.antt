@@ -1,10 +1,9 @@
+-- `array::lists::spread_runs` meets its contract: a row and a column are below the side.
 use native.Mathlib.Omega.{arith}
 use Rattle.array.proofs.Board.{column-in, row-in}
 use borrow.Author.Needs.{needs}
 use Rattle.array.proofs.lists.spread_runs.Statement.{statement}
 use Rattle.array.proofs.lists.spread_runs.Tie as tie
-use Rattle.array.proofs.lists.spread_runs.Reads as reads
-use Rattle.array.proofs.lists.spread_runs.Lts as lts
 
 sub-last : tie.Need-sub-last
 sub-last c = search needs

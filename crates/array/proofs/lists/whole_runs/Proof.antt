@@ -1,3 +1,4 @@
+-- `array::lists::whole_runs` meets its contract: the runs are filled one after the other.
 use Prim.Native.Nat.{_-_, _≤_}
 use mathlib.Core.Path.{ap}
 use lib.ListN.{length}
@@ -8,10 +9,6 @@ use Rattle.array.specs.declared.moves.Move.the-variants.{Swap}
 use Rattle.array.specs.Moves.{whole}
 use Rattle.array.proofs.lists.whole_runs.Statement.{statement}
 use Rattle.array.proofs.lists.whole_runs.Tie as tie
-use Rattle.array.proofs.lists.whole_runs.Reads as reads
-use Rattle.array.proofs.lists.whole_runs.Lts as lts
-use Rattle.array.proofs.lists.no_runs.Reads as no-runs-reads
-use Rattle.array.proofs.moves.whole.Reads as whole-reads
 
 abbrev Inv-loop : tie.InvT-loop
 Inv-loop n steps runs₀ q₀ runs q = (q ≤ 9) × Filled (whole n) Swap steps runs q

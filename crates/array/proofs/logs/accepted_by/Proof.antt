@@ -1,3 +1,4 @@
+-- `array::logs::accepted_by` meets its contract: the runs are counted one after the other.
 use Prim.Native.Nat.{ℕ, _+_, _-_, _%_, _^_, _≤_}
 use mathlib.Core.Path.{refl, ap, ap₂, _∙_}
 use borrow.Author.Needs.{needs}
@@ -8,12 +9,6 @@ use Rattle.array.specs.Answers.{accepted}
 use Rattle.array.proofs.Counts.{Counting, counting-start, counting-next, counting-end}
 use Rattle.array.proofs.logs.accepted_by.Statement.{statement}
 use Rattle.array.proofs.logs.accepted_by.Tie as tie
-use Rattle.array.proofs.logs.accepted_by.Reads as reads
-use Rattle.array.proofs.logs.accepted_by.Lts as lts
-use Rattle.array.proofs.answers.accepted.Reads as accepted-reads
-use Rattle.array.proofs.moves.electronic_in.Reads as electronic-in-reads
-use Rattle.array.proofs.moves.swaps_in.Reads as swaps-in-reads
-use Rattle.std.proofs.num.wrapping_add_usize.Reads as wrapping-add-usize-reads
 
 abbrev none : Run
 none = record { step = Swap; times = 0 }

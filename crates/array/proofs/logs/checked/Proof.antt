@@ -1,12 +1,7 @@
+-- `array::logs::checked` meets its contract: the three cases, one around the other.
 use borrow.Author.Needs.{needs}
 use Rattle.array.proofs.logs.checked.Statement.{statement}
 use Rattle.array.proofs.logs.checked.Tie as tie
-use Rattle.array.proofs.logs.checked.Reads as reads
-use Rattle.array.proofs.logs.checked.Lts as lts
-use Rattle.array.proofs.answers.lane_case.Reads as lane-case-reads
-use Rattle.array.proofs.answers.refusing.Reads as refusing-reads
-use Rattle.array.proofs.answers.side_case.Reads as side-case-reads
-use Rattle.array.proofs.logs.log_case.Reads as log-case-reads
 
 log-case-requires : tie.Need-log-case-requires
 log-case-requires c κs = search needs

@@ -1,13 +1,10 @@
+-- `array::logs::log_case` meets its contract: a log is too short just where the list has a move at its length.
 use mathlib.Core.Path.{_∙_, ap}
 use Rattle.array.specs.Moves.{moves, isStep}
 use Rattle.array.proofs.Steps.{step-is}
 use borrow.Author.Needs.{needs}
 use Rattle.array.proofs.logs.log_case.Statement.{statement}
 use Rattle.array.proofs.logs.log_case.Tie as tie
-use Rattle.array.proofs.logs.log_case.Reads as reads
-use Rattle.array.proofs.logs.log_case.Lts as lts
-use Rattle.array.proofs.logs.has_step.Reads as has-step-reads
-use Rattle.array.proofs.logs.step_at.Reads as step-at-reads
 
 step-at-requires : tie.Need-step-at-requires
 step-at-requires c κs = search needs

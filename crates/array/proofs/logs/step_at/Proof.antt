@@ -1,9 +1,8 @@
-use Prim.Native.Nat.{_+_, _-_, _≤_}
-use mathlib.Core.Path.{_≡_, refl, sym, ap, _∙_}
+-- `array::logs::step_at` meets its contract: run after run is passed until the move is in one.
+use Prim.Native.Nat.{_-_, _≤_}
+use mathlib.Core.Path.{_≡_, refl, sym, _∙_}
 use native.Mathlib.Numerals.{add-one}
-use native.Mathlib.Omega.{arith}
-use lib.ListN.{drop, getD, length}
-use lib.Seq.{drop-length}
+use lib.ListN.{drop}
 use borrow.Author.Needs.{needs}
 use Rattle.array.specs.declared.moves.Move.the-variants.{Swap}
 use Rattle.array.specs.declared.moves.Run.{Run}
@@ -11,8 +10,6 @@ use Rattle.array.specs.Moves.{moves, stepIn}
 use Rattle.array.proofs.Steps.{step-here, step-next, step-none}
 use Rattle.array.proofs.logs.step_at.Statement.{statement}
 use Rattle.array.proofs.logs.step_at.Tie as tie
-use Rattle.array.proofs.logs.step_at.Reads as reads
-use Rattle.array.proofs.logs.step_at.Lts as lts
 
 abbrev none : Run
 none = record { step = Swap; times = 0 }

@@ -1,3 +1,4 @@
+-- `array::logs::write_codes` meets its contract: the codes are stored one after the other.
 use Prim.Native.Nat.{_-_}
 use mathlib.Core.Path.{_≡_, refl, sym, _∙_}
 use native.Mathlib.Omega.{arith}
@@ -8,10 +9,6 @@ use Rattle.array.specs.Moves.{codes}
 use Rattle.array.proofs.Steps.{code-found, code-past}
 use Rattle.array.proofs.logs.write_codes.Statement.{statement}
 use Rattle.array.proofs.logs.write_codes.Tie as tie
-use Rattle.array.proofs.logs.write_codes.Reads as reads
-use Rattle.array.proofs.logs.write_codes.Lts as lts
-use Rattle.array.proofs.logs.step_at.Reads as step-at-reads
-use Rattle.array.proofs.moves.code.Reads as code-reads
 
 abbrev Inv-loop : tie.InvT-loop
 Inv-loop runs log₀ from at₀ log at = Storing log₀ (codes runs) from at log × (length log ≡ length log₀)

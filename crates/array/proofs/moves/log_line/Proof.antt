@@ -1,9 +1,8 @@
+-- `array::moves::log_line` meets its contract: the move stands at its code in the list of moves.
 use borrow.Author.Tests.{le-ltb, lt-ltb}
 use borrow.Author.Needs.{needs}
 use Rattle.array.proofs.moves.log_line.Statement.{statement}
 use Rattle.array.proofs.moves.log_line.Tie as tie
-use Rattle.array.proofs.moves.log_line.Reads as reads
-use Rattle.array.proofs.moves.log_line.Lts as lts
 
 returns : tie.Need-returns
 returns c = rw (le-ltb _ 5 (c .if1 .taken))

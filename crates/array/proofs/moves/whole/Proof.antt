@@ -1,8 +1,7 @@
+-- `array::moves::whole` meets its contract: by the kind of the move.
 use borrow.Author.Needs.{needs}
 use Rattle.array.proofs.moves.whole.Statement.{statement}
 use Rattle.array.proofs.moves.whole.Tie as tie
-use Rattle.array.proofs.moves.whole.Reads as reads
-use Rattle.array.proofs.moves.whole.Lts as lts
 
 enum-told : tie.Need-enum-told
 enum-told c = search needs

@@ -1,9 +1,7 @@
+-- `array::shifts::back_moves` meets its contract: by the edge.
 use borrow.Author.Needs.{needs}
 use Rattle.array.proofs.shifts.back_moves.Statement.{statement}
 use Rattle.array.proofs.shifts.back_moves.Tie as tie
-use Rattle.array.proofs.shifts.back_moves.Reads as reads
-use Rattle.array.proofs.shifts.back_moves.Lts as lts
-use Rattle.array.proofs.shifts.modulo.Reads as modulo-reads
 
 enum-told : tie.Need-enum-told
 enum-told c = search needs

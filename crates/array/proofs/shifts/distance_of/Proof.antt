@@ -1,8 +1,7 @@
+-- `array::shifts::distance_of` meets its contract: the machine reads a signed number back as it is.
 use Rattle.array.proofs.Signed.{wider, minus-fits, back-casts, back-is, forth-casts, forth-is}
 use Rattle.array.proofs.shifts.distance_of.Statement.{statement}
 use Rattle.array.proofs.shifts.distance_of.Tie as tie
-use Rattle.array.proofs.shifts.distance_of.Reads as reads
-use Rattle.array.proofs.shifts.distance_of.Lts as lts
 
 cast-t3 : tie.Need-cast-t3
 cast-t3 c = wider (c .before .args .k) (c .before .fits .k)

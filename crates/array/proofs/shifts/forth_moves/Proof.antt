@@ -1,9 +1,7 @@
+-- `array::shifts::forth_moves` meets its contract: by the edge.
 use borrow.Author.Needs.{needs}
 use Rattle.array.proofs.shifts.forth_moves.Statement.{statement}
 use Rattle.array.proofs.shifts.forth_moves.Tie as tie
-use Rattle.array.proofs.shifts.forth_moves.Reads as reads
-use Rattle.array.proofs.shifts.forth_moves.Lts as lts
-use Rattle.array.proofs.shifts.modulo.Reads as modulo-reads
 
 enum-told : tie.Need-enum-told
 enum-told c = search needs

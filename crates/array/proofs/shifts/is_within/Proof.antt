@@ -1,8 +1,7 @@
+-- `array::shifts::is_within` meets its contract: both tests, one after the other.
 use borrow.Author.Tests.{lt-ltb, le-ltb}
 use Rattle.array.proofs.shifts.is_within.Statement.{statement}
 use Rattle.array.proofs.shifts.is_within.Tie as tie
-use Rattle.array.proofs.shifts.is_within.Reads as reads
-use Rattle.array.proofs.shifts.is_within.Lts as lts
 
 returns : tie.Need-returns
 returns c = rw (lt-ltb _ _ (c .before .if1 .taken))

@@ -1,9 +1,8 @@
+-- `array::shifts::modulo` meets its contract: k, or the side less what k is below 0.
 use borrow.Author.Tests.{lt-ltb, le-ltb}
 use borrow.Author.Needs.{needs}
 use Rattle.array.proofs.shifts.modulo.Statement.{statement}
 use Rattle.array.proofs.shifts.modulo.Tie as tie
-use Rattle.array.proofs.shifts.modulo.Reads as reads
-use Rattle.array.proofs.shifts.modulo.Lts as lts
 
 sub-result : tie.Need-sub-result
 sub-result c = search needs

@@ -1,13 +1,7 @@
+-- `array::shifts::shift_list` meets its contract: its runs are those of the calls.
 use borrow.Author.Needs.{needs}
 use Rattle.array.proofs.shifts.shift_list.Statement.{statement}
 use Rattle.array.proofs.shifts.shift_list.Tie as tie
-use Rattle.array.proofs.shifts.shift_list.Reads as reads
-use Rattle.array.proofs.shifts.shift_list.Lts as lts
-use Rattle.array.proofs.moves.along.Reads as along-reads
-use Rattle.array.proofs.moves.opposite.Reads as opposite-reads
-use Rattle.array.proofs.moves.swapping.Reads as swapping-reads
-use Rattle.array.proofs.shifts.forth_way.Reads as forth-way-reads
-use Rattle.array.proofs.shifts.swaps_of.Reads as swaps-of-reads
 
 forth-way-requires : tie.Need-forth-way-requires
 forth-way-requires c κs = search needs

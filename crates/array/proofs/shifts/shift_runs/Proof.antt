@@ -1,10 +1,11 @@
+-- `array::shifts::shift_runs` meets its contract: the list of a distance within the side, or no moves.
 use Prim.Native.Nat.{ℕ, _≤_}
 use mathlib.Core.Path.{_≡_, sym, ap, ap₂, _∙_}
 use mathlib.Core.List.{List}
 use lib.IntN.{ℤ}
 use mir.Syntax.{w32}
 use mir.ValLaws.{toZ-ofZ}
-use mathlib.Core.Bool.{Bool, true, false}
+use mathlib.Core.Bool.{true, false}
 use native.Mathlib.Omega.{arith}
 use lib.Dec.{ltb}
 use borrow.Author.Tests.{ltb-true, not-true, not-false}
@@ -18,14 +19,6 @@ use Rattle.array.specs.Shifts.{distanceOf, within, forthMoves, backMoves
 use borrow.Author.Needs.{needs}
 use Rattle.array.proofs.shifts.shift_runs.Statement.{statement}
 use Rattle.array.proofs.shifts.shift_runs.Tie as tie
-use Rattle.array.proofs.shifts.shift_runs.Reads as reads
-use Rattle.array.proofs.shifts.shift_runs.Lts as lts
-use Rattle.array.proofs.lists.no_runs.Reads as no-runs-reads
-use Rattle.array.proofs.shifts.back_moves.Reads as back-moves-reads
-use Rattle.array.proofs.shifts.distance_of.Reads as distance-of-reads
-use Rattle.array.proofs.shifts.forth_moves.Reads as forth-moves-reads
-use Rattle.array.proofs.shifts.is_within.Reads as is-within-reads
-use Rattle.array.proofs.shifts.shift_list.Reads as shift-list-reads
 
 -- the list of a distance that is refused, and of one that is not
 module _ (s : ℕ) (axis : Axis) (edge : Edge) (k : ℤ) {d : Distance} {rs : List Run} (e : d ≡ distanceOf k) where

@@ -1,0 +1,20 @@
+-- One move of a list of runs: the move, how many of its run are left, and how many swaps were made before it.
+use Prim.Native.Nat.{ℕ, _+_, _-_}
+use mathlib.Core.Bool.{cond}
+use mathlib.Core.List.{List, [], _∷_}
+use lib.Dec.{ltb}
+use Rattle.array.specs.declared.moves.Move.the-variants.{Swap}
+use Rattle.array.specs.declared.moves.Run.{Run}
+use Rattle.array.specs.Moves.{swapsIn}
+use Rattle.travel.specs.declared.turns.Turn.{Turn}
+
+-- move k of a list, where so many swaps were made before the list
+abbrev pub turnIn : List Run → ℕ → ℕ → Turn
+turnIn [] swaps k = record { step = Swap; left = 0; swaps = swaps }
+turnIn (r ∷ rs) swaps k =
+    cond (ltb k (r .times))
+    (record { step = r .step; left = r .times - k; swaps = swaps + swapsIn (r .step) k })
+    (turnIn rs (swaps + swapsIn (r .step) (r .times)) (k - r .times))
+
+abbrev pub turnAt : List Run → ℕ → Turn
+turnAt rs k = turnIn rs 0 k
