@@ -1,0 +1,4 @@
+pub mod Digits
+pub mod Log
+pub mod Answers
+pub mod Buffers
