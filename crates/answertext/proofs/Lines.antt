@@ -1,13 +1,10 @@
 -- The lines of an answer, piece by piece.
-use Prim.Native.Nat.{ℕ, zero, suc, _+_, _-_, _/_, _%_, _≤_, _<_}
-use mathlib.Core.Path.{_≡_, refl, ap, _∙_}
-use mathlib.Core.List.{List, [], _∷_, _++_, append-assoc}
-use native.Mathlib.Numerals.{add-one, sub-one}
-use native.Mathlib.Omega.{arith}
+use Prim.Native.Nat.{ℕ, _+_, _-_, _≤_, _<_}
+use mathlib.Core.Path.{_≡_}
+use mathlib.Core.List.{List, _++_, append-assoc}
+use native.Mathlib.Numerals.{add-one}
 use lib.ListN.{length, getD}
-use lib.Dec.{ltb}
-use borrow.Author.Tests.{lt-ltb, le-ltb}
-use Rattle.laws.specs.Texts.{bytes}
+use Rattle.texts.specs.Bytes.{bytes}
 use Rattle.array.specs.declared.moves.Way.{Way}
 use Rattle.array.specs.declared.moves.Way.the-variants.{Right, Left, Up, Down}
 use Rattle.array.specs.declared.moves.Move.{Move}
@@ -16,34 +13,11 @@ use Rattle.array.specs.declared.moves.LogLine.{LogLine}
 use Rattle.array.specs.declared.moves.Logged.{Logged}
 use Rattle.array.specs.declared.moves.Logged.the-variants.{Line, NoMove}
 use Rattle.answertext.specs.declared.Totals.{Totals}
-use Rattle.answertext.specs.Digits.{digits, line, rows}
+use Rattle.texts.specs.Printed.{line, rows, field}
 use Rattle.answertext.specs.Log.{lines, lineOf, totalsOf}
-use Rattle.answertext.specs.Answers.{kindText, wayText, header, moveLine, allLine, recordLine, moveRow, recordRow, logText, answerText, refusedText, field, stepText}
-use Rattle.answertext.specs.Buffers.{Written}
-use Rattle.answertext.proofs.Putting.{nothing, one-then, Rowing, rows-next}
-
-module _ (n : ℕ) {out : List ℕ} {at : ℕ} where
-  pub digits-none : (most : ℕ) → most ≡ 0 → at ≤ length out → Written out at (digits most n) at out
-  unfolding digits
-  digits-none zero e h = nothing out at h
-  digits-none (suc k) e h = absurd (omega arith)
-
-  module _ {r : ℕ} {out′ : List ℕ} where
-    pub digits-one : (most : ℕ) → (most ≡ 0 → ⊥) → n < 10 → Written out at ((48 + n) ∷ []) r out′ → Written out at (digits most n) r out′
-    unfolding digits
-    digits-one zero z h w = absurd (z refl)
-    digits-one (suc k) z h w = rw (lt-ltb n 10 h) w
-
-    pub digits-more : (most : ℕ) {m : ℕ} {mid : List ℕ} → (most ≡ 0 → ⊥) → 10 ≤ n → Written out at (digits (most - 1) (n / 10)) m mid → Written mid m ((48 + n % 10) ∷ []) r out′ → Written out at (digits most n) r out′
-    unfolding digits
-    digits-more zero z h v w = absurd (z refl)
-    digits-more (suc k) {m} {mid} z h v w =
-        let v′ : Written out at (digits k (n / 10)) m mid = rw sub-one at v in
-        rw (le-ltb n 10 h) (one-then v′ w)
-
-    pub field-written : (after : ℕ) {m : ℕ} {mid : List ℕ} → Written out at (digits 20 n) m mid → Written mid m (after ∷ []) r out′ → Written out at (field n after) r out′
-    unfolding field
-    field-written after v w = one-then v w
+use Rattle.answertext.specs.Answers.{kindText, wayText, header, moveLine, allLine, recordLine, moveRow, recordRow, logText, answerText, refusedText, stepText}
+use Rattle.texts.specs.Buffers.{Written}
+use Rattle.texts.proofs.Putting.{nothing, one-then, Rowing, rows-next}
 
 -- the kind and the way of a move
 module _ {out : List ℕ} {at r : ℕ} {out′ : List ℕ} where
@@ -69,9 +43,9 @@ module _ {out : List ℕ} {at r : ℕ} {out′ : List ℕ} where
     step-down f w = rw (e, f) w
 
 -- the line of a move
-pub no-move-written : (number : ℕ) (logged : Logged) {out : List ℕ} {at : ℕ} → logged ≡ NoMove → at ≤ length out → Written out at (moveLine number logged) at out
+pub no-move-written : (number : ℕ) (logged : Logged) {out : List ℕ} {at : ℕ} → logged ≡ NoMove → Written out at (moveLine number logged) at out
 unfolding moveLine
-no-move-written number logged {out} {at} e h = rw e (nothing out at h)
+no-move-written number logged {out} {at} e = rw e (nothing out at)
 
 pub move-written : (number : ℕ) (logged : Logged) (l : LogLine) → logged ≡ Line l → {a b c d : List ℕ} {at m n r : ℕ}
     → Written a at (field number 9) m b → Written b m (stepText (l .step)) n c → Written c n (field (l .moved) 10) r d → Written a at (moveLine number logged) r d

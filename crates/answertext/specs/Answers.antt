@@ -2,14 +2,14 @@
 use Prim.Native.Nat.{ℕ, suc}
 use mathlib.Core.List.{List, [], _∷_, _++_}
 use lib.ListN.{length, getD}
-use Rattle.laws.specs.Texts.{bytes, tab}
+use Rattle.texts.specs.Bytes.{bytes, tab}
 use Rattle.array.specs.declared.moves.Way.the-variants.{Right, Left, Up, Down}
 use Rattle.array.specs.declared.moves.Move.{Move}
 use Rattle.array.specs.declared.moves.Move.the-variants.{Swap, Electronic}
 use Rattle.array.specs.declared.moves.Logged.{Logged}
 use Rattle.array.specs.declared.moves.Logged.the-variants.{Line, NoMove}
 use Rattle.answertext.specs.declared.Totals.{Totals}
-use Rattle.answertext.specs.Digits.{decimal, line, rows}
+use Rattle.texts.specs.Printed.{decimal, line, rows}
 use Rattle.answertext.specs.Log.{lines, lineOf, totalsOf}
 
 -- E electronic, or O optical
@@ -59,9 +59,6 @@ answerText codes moved words = logText (lineOf codes moved) (lines codes moved) 
 unfoldable pub refusedText : ℕ → ℕ → List ℕ
 refusedText number place = line (bytes "refused" ∷ decimal number ∷ decimal place ∷ [])
 
--- pieces of a line: a number and the byte after it; the kind and the way of a move, each with the tab after it
-unfoldable pub field : ℕ → ℕ → List ℕ
-field n after = decimal n ++ (after ∷ [])
-
+-- the kind and the way of a move, each with the tab after it
 unfoldable pub stepText : Move → List ℕ
 stepText m = kindText m ++ (tab ∷ (wayText m ++ (tab ∷ [])))

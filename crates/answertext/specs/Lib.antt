@@ -1,4 +1,2 @@
-pub mod Digits
 pub mod Log
 pub mod Answers
-pub mod Buffers

@@ -6,14 +6,15 @@ use array::moves::Way;
 use array::moves::electronic_in;
 use array::moves::log_line;
 use array::moves::swaps_in;
+use texts::write::put;
+use texts::write::put_field;
 ghost use mathlib.Core.Path.{_≡_};
-ghost use mathlib.Core.List.{List, [], _∷_};
-ghost use Prim.Native.Nat.{ℕ, _≤_, min};
+ghost use Prim.Native.Nat.{_≤_, min};
 ghost use lib.ListN.{length};
-ghost use Rattle.answertext.specs.Digits.{digits, rows};
+ghost use Rattle.texts.specs.Printed.{rows};
 ghost use Rattle.answertext.specs.Log.{lineOf, addedTo, totalsOf};
-ghost use Rattle.answertext.specs.Answers.{field, stepText, moveLine, recordLine, allLine, moveRow, recordRow, answerText, refusedText};
-ghost use Rattle.answertext.specs.Buffers.{Written};
+ghost use Rattle.answertext.specs.Answers.{stepText, moveLine, recordLine, allLine, moveRow, recordRow, answerText, refusedText};
+ghost use Rattle.texts.specs.Buffers.{Written};
 
 // What the lines of a log add up to.
 pub struct Totals {
@@ -22,57 +23,8 @@ pub struct Totals {
     pub moved: usize,
 }
 
-fn put_byte(out: &mut [u8], at: usize, byte: u8) -> usize
-    requires { ⌜ at ≤ length (now out) ⌝ }
-    ensures { λ r. ⌜ Written (now (out .entry)) at (byte ∷ []) r (now (out .exit)) ⌝ }
-{
-    if at == out.len() {
-        return at;
-    }
-    out[at] = byte;
-    at + 1
-}
-
-fn put(out: &mut [u8], at: usize, text: &[u8]) -> usize
-    requires { ⌜ at ≤ length (now out) ⌝ }
-    ensures { λ r. ⌜ Written (now (out .entry)) at (now (text .entry)) r (now (out .exit)) ⌝ }
-{
-    let mut end = at;
-    let mut i = 0;
-    while i < text.len() {
-        end = put_byte(out, end, text[i]);
-        i += 1;
-    }
-    end
-}
-
-// The last `most` digits of n, with no leading zero.
-fn put_digits(out: &mut [u8], at: usize, n: usize, most: usize) -> usize
-    requires { ⌜ at ≤ length (now out) ⌝ }
-    ensures { λ r. ⌜ Written (now (out .entry)) at (digits most n) r (now (out .exit)) ⌝ }
-{
-    if most == 0 {
-        return at;
-    }
-    if n < 10 {
-        return put_byte(out, at, 48 + n as u8);
-    }
-    let end = put_digits(out, at, n / 10, most - 1);
-    put_byte(out, end, 48 + (n % 10) as u8)
-}
-
-// A number and the byte after it.
-fn put_field(out: &mut [u8], at: usize, n: usize, after: u8) -> usize
-    requires { ⌜ at ≤ length (now out) ⌝ }
-    ensures { λ r. ⌜ Written (now (out .entry)) at (field n after) r (now (out .exit)) ⌝ }
-{
-    let end = put_digits(out, at, n, 20);
-    put_byte(out, end, after)
-}
-
 // The kind and the way of a move, each with the tab after it.
 fn put_step(out: &mut [u8], at: usize, step: Move) -> usize
-    requires { ⌜ at ≤ length (now out) ⌝ }
     ensures { λ r. ⌜ Written (now (out .entry)) at (stepText step) r (now (out .exit)) ⌝ }
 {
     match step {
@@ -88,7 +40,6 @@ fn put_step(out: &mut [u8], at: usize, step: Move) -> usize
 
 // The line of a move, by its log line.
 fn put_move(out: &mut [u8], at: usize, number: usize, logged: Logged) -> usize
-    requires { ⌜ at ≤ length (now out) ⌝ }
     ensures { λ r. ⌜ Written (now (out .entry)) at (moveLine number logged) r (now (out .exit)) ⌝ }
 {
     let Logged::Line(line) = logged else {
@@ -101,7 +52,6 @@ fn put_move(out: &mut [u8], at: usize, number: usize, logged: Logged) -> usize
 }
 
 fn put_record(out: &mut [u8], at: usize, cell: usize, word: u32) -> usize
-    requires { ⌜ at ≤ length (now out) ⌝ }
     ensures { λ r. ⌜ Written (now (out .entry)) at (recordLine cell word) r (now (out .exit)) ⌝ }
 {
     let end = put_field(out, at, cell, 9);
@@ -109,7 +59,6 @@ fn put_record(out: &mut [u8], at: usize, cell: usize, word: u32) -> usize
 }
 
 fn put_all(out: &mut [u8], at: usize, totals: Totals) -> usize
-    requires { ⌜ at ≤ length (now out) ⌝ }
     ensures { λ r. ⌜ Written (now (out .entry)) at (allLine totals) r (now (out .exit)) ⌝ }
 {
     let electronic = put(out, at, b"all\t");
@@ -152,7 +101,6 @@ fn sum_up(codes: &[u8], moved: &[u16], n: usize) -> Totals
 }
 
 fn put_moves(out: &mut [u8], at: usize, codes: &[u8], moved: &[u16], n: usize) -> usize
-    requires { ⌜ at ≤ length (now out) ⌝ }
     requires { ⌜ n ≤ length (now codes) ⌝ }
     requires { ⌜ n ≤ length (now moved) ⌝ }
     ensures { λ r. ⌜ Written (now (out .entry)) at (rows (moveRow (lineOf (now (codes .entry)) (now (moved .entry)))) n) r (now (out .exit)) ⌝ }
@@ -167,7 +115,6 @@ fn put_moves(out: &mut [u8], at: usize, codes: &[u8], moved: &[u16], n: usize) -
 }
 
 fn put_records(out: &mut [u8], at: usize, words: &[u32]) -> usize
-    requires { ⌜ at ≤ length (now out) ⌝ }
     ensures { λ r. ⌜ Written (now (out .entry)) at (rows (recordRow (now (words .entry))) (length (now (words .entry)))) r (now (out .exit)) ⌝ }
 {
     let mut end = at;

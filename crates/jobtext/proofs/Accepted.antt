@@ -1,24 +1,20 @@
 -- What an accepted job is: its cells rise strictly and are below s⁴, and the lanes hold them.
-use mathlib.Core.Path.{_≡_, refl, sym, ap, _∙_}
-use mathlib.Core.List.{List, [], _∷_, _++_, append-assoc, append-nil}
-use mathlib.Core.Bool.{Bool, true, false, cond, _&&_}
-use Prim.Native.Nat.{ℕ, zero, suc, _+_, _-_, _*_, _/_, _%_, _^_, _≤_, _<_}
+use mathlib.Core.Path.{_≡_, refl, ap, _∙_}
+use mathlib.Core.List.{List, [], _∷_}
+use mathlib.Core.Bool.{Bool, true, false, cond}
+use Prim.Native.Nat.{ℕ, suc, _+_, _-_, _≤_, _<_}
 use native.Mathlib.Omega.{arith}
-use native.Mathlib.Nat.{pow-suc}
 use lib.ListN.{length, getD, set, take, length-set}
-use lib.Dec.{leb, ltb, eqb}
-use borrow.Author.Tests.{le-leb, lt-ltb, le-ltb, ne-eqb, ltb-true, ltb-false, eqb-true, eqb-false, leb-true, leb-false}
-use Rattle.jobtext.specs.Numbers.{digitsFrom, numberOf}
+use lib.Dec.{leb, eqb}
+use borrow.Author.Tests.{lt-ltb, ne-eqb, eqb-true, eqb-false, leb-true, leb-false}
 use Rattle.jobtext.specs.Verdicts.{entryOf, Marked, Verdict, accepted, refused, also, cellsFrom, verdict}
-use Rattle.jobtext.specs.Lines.{Line, ended, unended}
+use Rattle.texts.specs.Lines.{Line, ended, unended}
 use Rattle.array.specs.Cells.{cells}
 use Rattle.jobtext.specs.Lanes.{laid}
 use Rattle.jobtext.specs.declared.Entry.{Entry}
 use Rattle.jobtext.specs.declared.Entry.the-variants.{Cell, Malformed}
-use Rattle.jobtext.proofs.Reading.{entry-in-order}
+use Rattle.jobtext.proofs.Entries.{entry-in-order}
 use lib.Seq.{getD-set-same, getD-set-other, take-all, length-take-le}
-use Rattle.jobtext.specs.declared.Number.{Number}
-use Rattle.jobtext.specs.declared.Number.the-variants.{Of, Not}
 
 -- The cells of an accepted job rise strictly and are below s⁴.
 unfoldable pub Rising : ℕ → ℕ → List Marked → Type 0

@@ -1,19 +1,17 @@
 -- The lines after the first, one at a time: what `read_cells` keeps from turn to turn. Assumes nothing.
 use mathlib.Core.Path.{_≡_, refl, sym, ap, _∙_}
-use mathlib.Core.List.{List, [], _∷_}
-use mathlib.Core.Bool.{Bool, true, false, _&&_}
-use Prim.Native.Nat.{ℕ, zero, suc, _+_, _-_, _*_, _≤_, _<_}
+use mathlib.Core.List.{List, []}
+use Prim.Native.Nat.{ℕ, suc, _+_, _-_, _*_, _≤_, _<_}
 use native.Mathlib.Omega.{arith}
 use native.Mathlib.Numerals.{add-one}
-use lib.ListN.{length, getD, take, drop, set, length-drop, drop-of-length-le}
-use lib.Seq.{drop-cons, drop-drop}
-use lib.Dec.{leb, ltb, eqb}
+use lib.ListN.{length, take, drop, set, length-drop, drop-of-length-le}
+use lib.Seq.{drop-drop}
 use mir.Syntax.{w64}
 use mir.Val.{Fits}
-use borrow.Author.Tests.{eq-eqb, ne-eqb, le-leb, lt-leb, lt-ltb, le-ltb}
 use Rattle.laws.proofs.Numbers.{square-grows, fourth-grows}
-use Rattle.jobtext.specs.Lines.{before, Line, ended, unended, front, linesOf}
-use Rattle.laws.specs.Texts.{lf}
+use Rattle.texts.specs.Lines.{before, linesOf}
+use Rattle.texts.specs.Bytes.{lf}
+use Rattle.texts.proofs.Ended.{lines-ended, lines-unended}
 use Rattle.jobtext.specs.Verdicts.{entryOf, Marked, Verdict, accepted, refused, also, cellsFrom}
 use Rattle.array.specs.Cells.{cells}
 use Rattle.jobtext.specs.Lanes.{jobOf, laid, Laid, CellsRead}
@@ -21,7 +19,8 @@ use Rattle.jobtext.specs.declared.Entry.{Entry}
 use Rattle.jobtext.specs.declared.Entry.the-variants.{Cell, Malformed}
 use Rattle.jobtext.specs.declared.Job.{Job}
 use Rattle.jobtext.specs.declared.Job.the-variants.{Ready, Refused}
-use Rattle.jobtext.proofs.Reading.{rest, entry-in-order}
+use Rattle.texts.proofs.Reading.{rest}
+use Rattle.jobtext.proofs.Entries.{entry-in-order}
 
 pub square : (s : ℕ) → s ≤ 8 → s * s ≤ 64
 square s h = square-grows h
@@ -34,37 +33,6 @@ square-fits s h = record { fits = omega (arith, square s h) }
 
 pub cells-fit : (s : ℕ) → s ≤ 8 → Fits w64 (s * s * (s * s))
 cells-fit s h = record { fits = omega (arith, cells-few s h) }
-
--- a text that has an LF: its first line, and the lines of what follows
-abbrev Ended : List ℕ → Type 0
-Ended s = before lf s < length s → linesOf s ≡ ended (take (before lf s) s) ∷ linesOf (drop (suc (before lf s)) s)
-
-ended-cons : (b : ℕ) (s : List ℕ) (t : Bool) → eqb b lf ≡ t → Ended s → Ended (b ∷ s)
-unfolding linesOf before front
-ended-cons b s true e ih h = rw e
-ended-cons b s false e ih h =
-    let h′ : suc (before lf s) < suc (length s) = rw e at h in
-    rw (e, ih (omega arith))
-
-pub lines-ended : (s : List ℕ) → Ended s
-lines-ended [] h = absurd (omega arith)
-lines-ended (b ∷ s) h = ended-cons b s (eqb b lf) refl (lines-ended s) h
-
--- a text that has bytes and no LF
-abbrev Unended : List ℕ → Type 0
-Unended s = before lf s ≡ length s → 0 < length s → linesOf s ≡ unended ∷ []
-
-unended-cons : (b : ℕ) (s : List ℕ) (t : Bool) → eqb b lf ≡ t → Unended s → Unended (b ∷ s)
-unfolding linesOf before front
-unended-cons b s true e ih h p = absurd (omega (arith, rw e at h))
-unended-cons b [] false e ih h p = rw e
-unended-cons b (x ∷ s) false e ih h p =
-    let h′ : suc (before lf (x ∷ s)) ≡ suc (suc (length s)) = rw e at h in
-    rw (e, ih (omega arith) (omega arith))
-
-pub lines-unended : (s : List ℕ) → Unended s
-lines-unended [] h p = absurd (omega arith)
-lines-unended (b ∷ s) h p = unended-cons b s (eqb b lf) refl (lines-unended s) h p
 
 -- the verdict on a text that starts with line k, by its first line
 module _ (s next k : ℕ) (t : List ℕ) where

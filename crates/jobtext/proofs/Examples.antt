@@ -2,13 +2,12 @@
 use Prim.Native.Nat.{ℕ}
 use Prim.Native.String.{String}
 use mathlib.Core.Path.{_≡_, refl}
-use mathlib.Core.List.{List, [], _∷_, _++_, map}
-use lib.ListN.{take, replicate}
-use Rattle.laws.specs.Texts.{bytes}
-use Rattle.jobtext.specs.Lines.{same, linesOf, front, firstField, secondField, before}
+use mathlib.Core.List.{List, [], _∷_, map}
+use lib.ListN.{replicate}
+use Rattle.texts.specs.Bytes.{bytes, same}
+use Rattle.texts.specs.Lines.{linesOf, front, firstField, secondField, before}
 use Rattle.jobtext.specs.Verdicts.{Verdict, accepted, refused, Marked, verdict, jobFrom, cellsFrom, also, entryOf, sideOf}
-use Rattle.jobtext.specs.Numbers.{numberOf, digitsFrom}
-use Rattle.jobtext.specs.Lanes.{laid, laneOf, wordsOf, marksOf}
+use Rattle.texts.specs.Numbers.{numberOf, digitsFrom}
 
 unfoldable pub judged : List String → List Verdict
 unfolding verdict jobFrom cellsFrom also linesOf front entryOf sideOf firstField secondField before numberOf digitsFrom same

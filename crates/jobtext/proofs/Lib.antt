@@ -1,4 +1,4 @@
-pub mod Reading
+pub mod Entries
 pub mod Cells
 pub mod Whole
 pub mod Accepted

@@ -1,25 +1,24 @@
 -- The verdict on a whole text, case by case. Assumes nothing.
-use mathlib.Core.Path.{_≡_, refl, sym, ap, _∙_}
+use mathlib.Core.Path.{_≡_, refl, sym, _∙_}
 use mathlib.Core.List.{List, [], _∷_}
 use mathlib.Core.Bool.{Bool, true, false, not}
-use Prim.Native.Nat.{ℕ, zero, suc, _+_, _-_, _*_, _≤_, _<_}
+use Prim.Native.Nat.{ℕ, _+_, _-_, _≤_, _<_}
 use native.Mathlib.Omega.{arith}
 use native.Mathlib.Numerals.{add-one}
 use lib.ListN.{length, take, drop, replicate}
-use lib.Dec.{leb, ltb}
 use borrow.Author.Tests.{lt-ltb, le-ltb, not-true, not-false}
 use Rattle.array.specs.Cells.{isSide}
 use Rattle.array.proofs.Board.{side-known}
-use Rattle.jobtext.specs.Lines.{before, linesOf}
-use Rattle.laws.specs.Texts.{lf}
+use Rattle.texts.specs.Lines.{before, linesOf}
+use Rattle.texts.specs.Bytes.{lf}
 use Rattle.jobtext.specs.Verdicts.{sideOf, Verdict, accepted, refused, cellsFrom, jobFrom, verdict}
-use Rattle.jobtext.specs.Lanes.{jobOf, laneOf, Laid, CellsRead, JobRead}
-use Rattle.jobtext.specs.declared.Number.{Number}
-use Rattle.jobtext.specs.declared.Number.the-variants.{Of, Not}
+use Rattle.jobtext.specs.Lanes.{jobOf, laneOf, CellsRead, JobRead}
+use Rattle.texts.specs.declared.read.Number.{Number}
+use Rattle.texts.specs.declared.read.Number.the-variants.{Of, Not}
 use Rattle.jobtext.specs.declared.Job.{Job}
 use Rattle.jobtext.specs.declared.Job.the-variants.{Ready, Refused}
-use Rattle.jobtext.proofs.Reading.{rest}
-use Rattle.jobtext.proofs.Cells.{lines-ended, lines-unended}
+use Rattle.texts.proofs.Reading.{rest}
+use Rattle.texts.proofs.Ended.{lines-ended, lines-unended}
 
 pub side-small : (s : ℕ) {t : Bool} → t ≡ isSide s → not t ≡ false → s ≤ 8
 side-small s {t} q f = side-known s (sym q ∙ not-false t f) .most

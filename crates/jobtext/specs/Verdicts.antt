@@ -4,12 +4,12 @@ use mathlib.Core.List.{List, [], _∷_}
 use mathlib.Core.Bool.{Bool, cond, _&&_}
 use lib.ListN.{length}
 use lib.Dec.{leb, ltb}
-use Rattle.laws.specs.Texts.{bytes}
+use Rattle.texts.specs.Bytes.{bytes, same}
 use Rattle.array.specs.Cells.{isSide, cells}
-use Rattle.jobtext.specs.Numbers.{numberOf}
-use Rattle.jobtext.specs.Lines.{firstField, secondField, Line, ended, unended, linesOf, same}
-use Rattle.jobtext.specs.declared.Number.{Number}
-use Rattle.jobtext.specs.declared.Number.the-variants.{Of, Not}
+use Rattle.texts.specs.Numbers.{numberOf}
+use Rattle.texts.specs.Lines.{firstField, secondField, Line, ended, unended, linesOf}
+use Rattle.texts.specs.declared.read.Number.{Number}
+use Rattle.texts.specs.declared.read.Number.the-variants.{Of, Not}
 use Rattle.jobtext.specs.declared.Entry.{Entry}
 use Rattle.jobtext.specs.declared.Entry.the-variants.{Cell, Malformed}
 

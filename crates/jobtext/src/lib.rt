@@ -1,18 +1,14 @@
 // The job text, read from a lent slice into lent lanes: a job, or a refusal with its number and line.
 use array::cells::is_side;
+use texts::read::Number;
+use texts::read::bytes_before;
+use texts::read::number_of;
+use texts::read::same;
 ghost use mathlib.Core.Path.{_≡_};
-ghost use Prim.Native.Nat.{ℕ, _≤_, _<_};
-ghost use lib.ListN.{length};
-ghost use Rattle.jobtext.specs.Lines.{same as sameBytes, before, linesOf};
-ghost use Rattle.jobtext.specs.Numbers.{digitsFrom, numberOf};
+ghost use Prim.Native.Nat.{_≤_, _<_};
+ghost use Rattle.texts.specs.Lines.{linesOf};
 ghost use Rattle.jobtext.specs.Verdicts.{sideOf, entryOf, cellsFrom, verdict};
 ghost use Rattle.jobtext.specs.Lanes.{CellsRead, JobRead};
-
-// What a field is as a number.
-pub enum Number {
-    Of(u32),
-    Not,
-}
 
 // What a line is, after the first: a marked cell.
 pub enum Entry {
@@ -26,86 +22,16 @@ pub enum Job {
     Refused(usize, usize),
 }
 
-// How many bytes stand before the first b: all of them where there is none.
-fn find(s: &[u8], b: u8) -> usize
-    ensures { λ r. ⌜ r ≡ before b (now (s .entry)) ⌝ }
-    ensures { λ r. ⌜ r ≤ length (now (s .entry)) ⌝ }
-{
-    let mut i = 0;
-    while i < s.len() {
-        if s[i] == b {
-            return i;
-        }
-        i += 1;
-    }
-    i
-}
-
-// Whether a and b hold the same bytes.
-fn same(a: &[u8], b: &[u8]) -> bool
-    ensures { λ r. ⌜ r ≡ sameBytes (now (a .entry)) (now (b .entry)) ⌝ }
-{
-    if a.len() != b.len() {
-        return false;
-    }
-    let mut i = 0;
-    while i < a.len() {
-        if a[i] != b[i] {
-            return false;
-        }
-        i += 1;
-    }
-    true
-}
-
-// The number that a field writes.
-fn read_number(field: &[u8]) -> Number
-    ensures { λ r. ⌜ r ≡ numberOf (now (field .entry)) ⌝ }
-{
-    if field.len() == 0 {
-        return Number::Not;
-    }
-    if field[0] == b'0' {
-        if field.len() > 1 {
-            return Number::Not;
-        }
-    }
-    read_digits(field)
-}
-
-// The number that digits write, read from the left.
-fn read_digits(field: &[u8]) -> Number
-    ensures { λ r. ⌜ r ≡ digitsFrom 0 (now (field .entry)) ⌝ }
-{
-    let mut n: u64 = 0;
-    let mut i = 0;
-    while i < field.len() {
-        let b = field[i];
-        if b < b'0' {
-            return Number::Not;
-        }
-        if b'9' < b {
-            return Number::Not;
-        }
-        n = n * 10 + (b - b'0') as u64;
-        if n > 4294967295 {
-            return Number::Not;
-        }
-        i += 1;
-    }
-    Number::Of(n as u32)
-}
-
 // The side that the first line gives.
 fn read_side(line: &[u8]) -> Number
     ensures { λ r. ⌜ r ≡ sideOf (now (line .entry)) ⌝ }
 {
-    let at = find(line, 9);
+    let at = bytes_before(line, 9);
     if at == line.len() {
         return Number::Not;
     }
     if same(&line[..at], b"side") {
-        read_number(&line[at + 1..])
+        number_of(&line[at + 1..])
     } else {
         Number::Not
     }
@@ -115,14 +41,14 @@ fn read_side(line: &[u8]) -> Number
 fn read_entry(line: &[u8], next: usize, end: usize) -> Entry
     ensures { λ r. ⌜ r ≡ entryOf next end (now (line .entry)) ⌝ }
 {
-    let at = find(line, 9);
+    let at = bytes_before(line, 9);
     if at == line.len() {
         return Entry::Malformed;
     }
-    let Number::Of(i) = read_number(&line[..at]) else {
+    let Number::Of(i) = number_of(&line[..at]) else {
         return Entry::Malformed;
     };
-    let Number::Of(word) = read_number(&line[at + 1..]) else {
+    let Number::Of(word) = number_of(&line[at + 1..]) else {
         return Entry::Malformed;
     };
     let index = i as usize;
@@ -147,7 +73,7 @@ fn read_cells(text: &[u8], side: usize, words: &mut [u32; 4096], marks: &mut [u8
     let mut marked = 0;
     while at < text.len() {
         let rest = &text[at..];
-        let end = find(rest, 10);
+        let end = bytes_before(rest, 10);
         if end == rest.len() {
             return Job::Refused(8, line);
         }
@@ -174,7 +100,7 @@ pub fn read(text: &[u8], words: &mut [u32; 4096], marks: &mut [u8; 4096]) -> Job
     if text.len() > 65536 {
         return Job::Refused(8, 0);
     }
-    let end = find(text, 10);
+    let end = bytes_before(text, 10);
     if end == text.len() {
         return Job::Refused(8, 1);
     }

@@ -1,4 +1,4 @@
-use Rattle.answertext.proofs.Putting.{Rowing, rows-begin, rows-within, rows-end}
+use Rattle.texts.proofs.Putting.{Rowing, rows-begin, rows-end}
 use Rattle.answertext.proofs.Lines.{moves-next}
 use Rattle.answertext.specs.Log.{lineOf}
 use Rattle.answertext.specs.Answers.{moveRow}
@@ -32,7 +32,7 @@ log-line-requires : tie.Need-log-line-requires Inv-loop μ-loop
 log-line-requires c κs = search needs
 
 put-move-requires : tie.Need-put-move-requires Inv-loop μ-loop
-put-move-requires c κs = search rows-within
+put-move-requires c κs = search needs
 
 add-i : tie.Need-add-i Inv-loop μ-loop
 add-i c = search needs

@@ -1,4 +1,4 @@
-use Rattle.answertext.proofs.Putting.{Rowing, rows-begin, rows-within, rows-end}
+use Rattle.texts.proofs.Putting.{Rowing, rows-begin, rows-end}
 use Rattle.answertext.proofs.Lines.{records-next}
 use Rattle.answertext.specs.Answers.{recordRow}
 use lib.ListN.{length}
@@ -23,7 +23,7 @@ shared-slice-read-put-record : tie.Need-shared-slice-read-put-record Inv-loop μ
 shared-slice-read-put-record c = search needs
 
 put-record-requires : tie.Need-put-record-requires Inv-loop μ-loop
-put-record-requires c κs = search rows-within
+put-record-requires c κs = search needs
 
 add-i : tie.Need-add-i Inv-loop μ-loop
 add-i c = search needs

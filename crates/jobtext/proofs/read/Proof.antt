@@ -1,5 +1,5 @@
-use Rattle.jobtext.proofs.Reading.{part-length}
 use Rattle.jobtext.proofs.Whole.{side-small, read-too-long, read-unended, read-no-side, read-bad-side, read-ready, read-refused}
+use Rattle.texts.proofs.Reading.{part-length}
 use borrow.Author.Needs.{needs}
 use Rattle.jobtext.proofs.read.Statement.{statement}
 use Rattle.jobtext.proofs.read.Tie as tie
@@ -7,8 +7,8 @@ use Rattle.jobtext.proofs.read.Tie as tie
 returns : tie.Need-returns
 returns c = search read-too-long
 
-find-requires : tie.Need-find-requires
-find-requires c κs = search needs
+bytes-before-requires : tie.Need-bytes-before-requires
+bytes-before-requires c κs = search needs
 
 returns-2 : tie.Need-returns-2
 returns-2 c = search read-unended
@@ -69,7 +69,7 @@ read-spec =
     tie.close
     (tie.spec
     returns
-    find-requires
+    bytes-before-requires
     returns-2
     slice-aggregate-read-side
     read-side-requires

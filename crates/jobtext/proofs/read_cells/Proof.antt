@@ -1,9 +1,8 @@
-use borrow.Author.Needs.{needs}
-use native.Mathlib.Omega.{arith}
-use Prim.Native.Nat.{_-_}
-use lib.ListN.{length}
-use Rattle.jobtext.proofs.Reading.{part-length}
 use Rattle.jobtext.proofs.Cells.{square-fits, cells-fit, cell-inside, cell-scaled, cell-counted, Cells, cells-begin, cells-end, cells-unended, cells-malformed, cells-next}
+use Rattle.texts.proofs.Reading.{part-length}
+use lib.ListN.{length}
+use Prim.Native.Nat.{_-_}
+use borrow.Author.Needs.{needs}
 use Rattle.jobtext.proofs.read_cells.Statement.{statement}
 use Rattle.jobtext.proofs.read_cells.Tie as tie
 
@@ -34,8 +33,8 @@ part-rest-start c = search needs
 part-rest-end : tie.Need-part-rest-end Inv-loop μ-loop
 part-rest-end c = search needs
 
-find-requires : tie.Need-find-requires Inv-loop μ-loop
-find-requires c κs = search needs
+bytes-before-requires : tie.Need-bytes-before-requires Inv-loop μ-loop
+bytes-before-requires c κs = search needs
 
 returns : tie.Need-returns Inv-loop μ-loop
 returns c = search cells-unended
@@ -101,7 +100,7 @@ read-cells-spec =
     sub-rest
     part-rest-start
     part-rest-end
-    find-requires
+    bytes-before-requires
     returns
     slice-aggregate-read-entry
     read-entry-requires

@@ -1,20 +1,20 @@
-use native.Mathlib.Omega.{arith}
-use Rattle.jobtext.proofs.Reading.{part-length, entry-no-tab, entry-no-index, entry-no-word, entry-low, entry-high, entry-cell}
+use Rattle.jobtext.proofs.Entries.{entry-no-tab, entry-no-index, entry-no-word, entry-low, entry-high, entry-cell}
+use Rattle.texts.proofs.Reading.{part-length}
 use borrow.Author.Needs.{needs}
 use Rattle.jobtext.proofs.read_entry.Statement.{statement}
 use Rattle.jobtext.proofs.read_entry.Tie as tie
 
-find-requires : tie.Need-find-requires
-find-requires c κs = search needs
+bytes-before-requires : tie.Need-bytes-before-requires
+bytes-before-requires c κs = search needs
 
 returns : tie.Need-returns
 returns c = search entry-no-tab
 
-slice-aggregate-read-number : tie.Need-slice-aggregate-read-number
-slice-aggregate-read-number c = search part-length
+slice-aggregate-number-of : tie.Need-slice-aggregate-number-of
+slice-aggregate-number-of c = search part-length
 
-read-number-requires : tie.Need-read-number-requires
-read-number-requires c κs = search needs
+number-of-requires : tie.Need-number-of-requires
+number-of-requires c κs = search needs
 
 enum-known-i : tie.Need-enum-known-i
 enum-known-i c = search needs
@@ -25,20 +25,20 @@ enum-told c = search needs
 returns-2 : tie.Need-returns-2
 returns-2 c = search entry-no-index
 
-add-read-number : tie.Need-add-read-number
-add-read-number c = search needs
+add-number-of : tie.Need-add-number-of
+add-number-of c = search needs
 
-sub-read-number : tie.Need-sub-read-number
-sub-read-number c = search needs
+sub-number-of : tie.Need-sub-number-of
+sub-number-of c = search needs
 
-part-read-number-start : tie.Need-part-read-number-start
-part-read-number-start c = search needs
+part-number-of-start : tie.Need-part-number-of-start
+part-number-of-start c = search needs
 
-part-read-number-end : tie.Need-part-read-number-end
-part-read-number-end c = search needs
+part-number-of-end : tie.Need-part-number-of-end
+part-number-of-end c = search needs
 
-read-number-requires-2 : tie.Need-read-number-requires-2
-read-number-requires-2 c κs = search needs
+number-of-requires-2 : tie.Need-number-of-requires-2
+number-of-requires-2 c κs = search needs
 
 enum-known-word : tie.Need-enum-known-word
 enum-known-word c = search needs
@@ -65,18 +65,18 @@ pub read-entry-spec : {M : Type 1} → statement M
 read-entry-spec =
     tie.close
     (tie.spec
-    find-requires
+    bytes-before-requires
     returns
-    slice-aggregate-read-number
-    read-number-requires
+    slice-aggregate-number-of
+    number-of-requires
     enum-known-i
     enum-told
     returns-2
-    add-read-number
-    sub-read-number
-    part-read-number-start
-    part-read-number-end
-    read-number-requires-2
+    add-number-of
+    sub-number-of
+    part-number-of-start
+    part-number-of-end
+    number-of-requires-2
     enum-known-word
     enum-told-2
     returns-3

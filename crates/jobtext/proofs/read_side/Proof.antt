@@ -1,12 +1,11 @@
-use Rattle.jobtext.proofs.Reading.{side-no-tab, side-named, side-unnamed}
-use native.Mathlib.Omega.{arith}
-use Rattle.jobtext.proofs.Reading.{part-length}
+use Rattle.jobtext.proofs.Entries.{side-no-tab, side-named, side-unnamed}
+use Rattle.texts.proofs.Reading.{part-length}
 use borrow.Author.Needs.{needs}
 use Rattle.jobtext.proofs.read_side.Statement.{statement}
 use Rattle.jobtext.proofs.read_side.Tie as tie
 
-find-requires : tie.Need-find-requires
-find-requires c κs = search needs
+bytes-before-requires : tie.Need-bytes-before-requires
+bytes-before-requires c κs = search needs
 
 returns : tie.Need-returns
 returns c = search side-no-tab
@@ -20,20 +19,20 @@ slice-aggregate-same-2 c = search needs
 same-requires : tie.Need-same-requires
 same-requires c κs = search needs
 
-add-read-number : tie.Need-add-read-number
-add-read-number c = search needs
+add-number-of : tie.Need-add-number-of
+add-number-of c = search needs
 
-sub-read-number : tie.Need-sub-read-number
-sub-read-number c = search needs
+sub-number-of : tie.Need-sub-number-of
+sub-number-of c = search needs
 
-part-read-number-start : tie.Need-part-read-number-start
-part-read-number-start c = search needs
+part-number-of-start : tie.Need-part-number-of-start
+part-number-of-start c = search needs
 
-part-read-number-end : tie.Need-part-read-number-end
-part-read-number-end c = search needs
+part-number-of-end : tie.Need-part-number-of-end
+part-number-of-end c = search needs
 
-read-number-requires : tie.Need-read-number-requires
-read-number-requires c κs = search needs
+number-of-requires : tie.Need-number-of-requires
+number-of-requires c κs = search needs
 
 returns-2 : tie.Need-returns-2
 returns-2 c = search side-named
@@ -45,15 +44,15 @@ pub read-side-spec : {M : Type 1} → statement M
 read-side-spec =
     tie.close
     (tie.spec
-    find-requires
+    bytes-before-requires
     returns
     slice-aggregate-same
     slice-aggregate-same-2
     same-requires
-    add-read-number
-    sub-read-number
-    part-read-number-start
-    part-read-number-end
-    read-number-requires
+    add-number-of
+    sub-number-of
+    part-number-of-start
+    part-number-of-end
+    number-of-requires
     returns-2
     returns-3)

@@ -1,7 +1,7 @@
-use Rattle.answertext.proofs.Lines.{field-written}
+use Rattle.texts.proofs.Digits.{field-written}
 use borrow.Author.Needs.{needs}
-use Rattle.answertext.proofs.put_field.Statement.{statement}
-use Rattle.answertext.proofs.put_field.Tie as tie
+use Rattle.texts.proofs.write.put_field.Statement.{statement}
+use Rattle.texts.proofs.write.put_field.Tie as tie
 
 put-digits-requires : tie.Need-put-digits-requires
 put-digits-requires c κs = search needs

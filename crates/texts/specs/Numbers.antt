@@ -4,8 +4,8 @@ use mathlib.Core.List.{List, [], _∷_}
 use mathlib.Core.Bool.{cond, _&&_}
 use lib.ListN.{length}
 use lib.Dec.{leb, ltb, eqb}
-use Rattle.jobtext.specs.declared.Number.{Number}
-use Rattle.jobtext.specs.declared.Number.the-variants.{Of, Not}
+use Rattle.texts.specs.declared.read.Number.{Number}
+use Rattle.texts.specs.declared.read.Number.the-variants.{Of, Not}
 
 -- the number that digits write, where n is what those before them write
 unfoldable pub digitsFrom : ℕ → List ℕ → Number

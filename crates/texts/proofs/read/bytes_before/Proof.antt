@@ -1,12 +1,10 @@
-use borrow.Author.Needs.{needs}
-use mathlib.Core.Path.{_≡_}
-use Prim.Native.Nat.{_+_, _-_, _≤_}
+use Prim.Native.Nat.{_-_}
 use native.Mathlib.Omega.{arith}
-use lib.ListN.{length, drop}
-use Rattle.jobtext.specs.Lines.{before}
-use Rattle.jobtext.proofs.Reading.{Sought, sought-found, sought-next, sought-end}
-use Rattle.jobtext.proofs.find.Statement.{statement}
-use Rattle.jobtext.proofs.find.Tie as tie
+use lib.ListN.{length}
+use Rattle.texts.specs.Lines.{before}
+use Rattle.texts.proofs.Reading.{Sought, sought-found, sought-next, sought-end}
+use Rattle.texts.proofs.read.bytes_before.Statement.{statement}
+use Rattle.texts.proofs.read.bytes_before.Tie as tie
 
 abbrev Inv-loop : tie.InvT-loop
 Inv-loop s b i₀ i = Sought b s i
@@ -35,8 +33,8 @@ loop-again c = sought-next (c .before .before .before .loop .inv) (c .before .be
 returns-2 : tie.Need-returns-2 Inv-loop μ-loop
 returns-2 c = sought-end (c .before .loop .inv) (c .loop-test .left)
 
-pub find-spec : {M : Type 1} → statement M
-find-spec =
+pub bytes-before-spec : {M : Type 1} → statement M
+bytes-before-spec =
     tie.close
     (tie.spec
     Inv-loop

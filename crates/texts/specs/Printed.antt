@@ -3,7 +3,7 @@ use Prim.Native.Nat.{ℕ, zero, suc, _+_, _/_, _%_}
 use mathlib.Core.Bool.{cond}
 use mathlib.Core.List.{List, [], _∷_, _++_}
 use lib.Dec.{ltb}
-use Rattle.laws.specs.Texts.{tab, lf}
+use Rattle.texts.specs.Bytes.{tab, lf}
 
 -- the last k digits of n, with no leading zero
 unfoldable pub digits : ℕ → ℕ → List ℕ
@@ -24,3 +24,7 @@ line (f ∷ g ∷ fs) = f ++ (tab ∷ line (g ∷ fs))
 unfoldable pub rows : (ℕ → List ℕ) → ℕ → List ℕ
 rows f zero = []
 rows f (suc n) = rows f n ++ f n
+
+-- a number and the byte after it
+unfoldable pub field : ℕ → ℕ → List ℕ
+field n after = decimal n ++ (after ∷ [])

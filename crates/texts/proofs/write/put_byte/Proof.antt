@@ -1,7 +1,7 @@
-use Rattle.answertext.proofs.Putting.{no-byte}
+use Rattle.texts.proofs.Putting.{no-byte}
 use borrow.Author.Needs.{needs}
-use Rattle.answertext.proofs.put_byte.Statement.{statement}
-use Rattle.answertext.proofs.put_byte.Tie as tie
+use Rattle.texts.proofs.write.put_byte.Statement.{statement}
+use Rattle.texts.proofs.write.put_byte.Tie as tie
 
 returns : tie.Need-returns
 returns c = search no-byte

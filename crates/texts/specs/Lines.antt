@@ -1,10 +1,10 @@
 -- The lines of a text, and the two fields of a line.
 use Prim.Native.Nat.{ℕ, suc}
 use mathlib.Core.List.{List, [], _∷_}
-use mathlib.Core.Bool.{Bool, true, false, cond, _&&_}
+use mathlib.Core.Bool.{cond}
 use lib.ListN.{take, drop}
 use lib.Dec.{eqb}
-use Rattle.laws.specs.Texts.{tab, lf}
+use Rattle.texts.specs.Bytes.{tab, lf}
 
 -- how many bytes stand before the first b: all of them where there is none
 unfoldable pub before : ℕ → List ℕ → ℕ
@@ -32,10 +32,3 @@ front b (ended line ∷ ls) = ended (b ∷ line) ∷ ls
 unfoldable pub linesOf : List ℕ → List Line
 linesOf [] = []
 linesOf (b ∷ s) = cond (eqb b lf) (ended [] ∷ linesOf s) (front b (linesOf s))
-
--- whether two lists hold the same bytes
-unfoldable pub same : List ℕ → List ℕ → Bool
-same [] [] = true
-same [] (y ∷ t) = false
-same (x ∷ s) [] = false
-same (x ∷ s) (y ∷ t) = eqb x y && same s t

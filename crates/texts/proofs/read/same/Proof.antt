@@ -1,11 +1,9 @@
 use borrow.Author.Needs.{needs}
-use native.Mathlib.Omega.{arith}
 use Prim.Native.Nat.{_-_}
-use mathlib.Core.Path.{refl}
 use lib.ListN.{length}
-use Rattle.jobtext.proofs.Reading.{Alike, same-long, alike-next, alike-differ, alike-end}
-use Rattle.jobtext.proofs.same.Statement.{statement}
-use Rattle.jobtext.proofs.same.Tie as tie
+use Rattle.texts.proofs.Reading.{Alike, same-long, alike-next, alike-differ, alike-end}
+use Rattle.texts.proofs.read.same.Statement.{statement}
+use Rattle.texts.proofs.read.same.Tie as tie
 
 abbrev Inv-loop : tie.InvT-loop
 Inv-loop a b i₀ i = Alike a b i

@@ -3,9 +3,9 @@ use native.Mathlib.Omega.{arith}
 use Prim.Native.Nat.{_-_}
 use mathlib.Core.Path.{refl}
 use lib.ListN.{length}
-use Rattle.jobtext.proofs.Reading.{Digits, digits-low, digits-high, digits-over, digits-next, digits-end}
-use Rattle.jobtext.proofs.read_digits.Statement.{statement}
-use Rattle.jobtext.proofs.read_digits.Tie as tie
+use Rattle.texts.proofs.Reading.{Digits, digits-low, digits-high, digits-over, digits-next, digits-end}
+use Rattle.texts.proofs.read.digits.Statement.{statement}
+use Rattle.texts.proofs.read.digits.Tie as tie
 
 abbrev Inv-loop : tie.InvT-loop
 Inv-loop field n₀ i₀ n i = Digits field n i
@@ -52,8 +52,8 @@ cast-t11 c = search needs
 returns-4 : tie.Need-returns-4 Inv-loop μ-loop
 returns-4 c = search digits-end
 
-pub read-digits-spec : {M : Type 1} → statement M
-read-digits-spec =
+pub digits-spec : {M : Type 1} → statement M
+digits-spec =
     tie.close
     (tie.spec
     Inv-loop

@@ -1,9 +1,9 @@
-use Rattle.answertext.proofs.Putting.{Putting, put-begin, put-within, put-next, put-end}
+use Rattle.texts.proofs.Putting.{Putting, put-begin, put-next, put-end}
 use lib.ListN.{length}
 use Prim.Native.Nat.{_-_}
 use borrow.Author.Needs.{needs}
-use Rattle.answertext.proofs.put.Statement.{statement}
-use Rattle.answertext.proofs.put.Tie as tie
+use Rattle.texts.proofs.write.put.Statement.{statement}
+use Rattle.texts.proofs.write.put.Tie as tie
 
 abbrev Inv-loop : tie.InvT-loop
 Inv-loop out₀ at text end₀ i₀ out end i = Putting out₀ at text out end i
@@ -18,7 +18,7 @@ shared-slice-read-put-byte : tie.Need-shared-slice-read-put-byte Inv-loop μ-loo
 shared-slice-read-put-byte c = search needs
 
 put-byte-requires : tie.Need-put-byte-requires Inv-loop μ-loop
-put-byte-requires c κs = search put-within
+put-byte-requires c κs = search needs
 
 add-i : tie.Need-add-i Inv-loop μ-loop
 add-i c = search needs
