@@ -1,12 +1,17 @@
 -- Laws of verdicts: an answer with the number 0 says that no case applies, and any other is that of the first case that does.
-use Prim.Native.Nat.{_<_}
-use mathlib.Core.Path.{_≡_, refl}
+use Prim.Native.Nat.{ℕ, _^_, _<_}
+use mathlib.Core.Path.{_≡_, refl, ap₂}
 use mathlib.Core.Bool.{Bool, true, false}
 use mathlib.Core.List.{List, [], _∷_}
+use native.Mathlib.Nat.{mod-eq-of-lt}
 use native.Mathlib.Omega.{arith}
+use borrow.Author.Tests.{not-false}
 use Rattle.array.specs.declared.answers.Answer.{Answer}
 use Rattle.array.specs.declared.answers.Case.{Case}
-use Rattle.array.specs.Answers.{verdict}
+use Rattle.array.specs.declared.moves.Run.{Run}
+use Rattle.array.specs.Cells.{isSide}
+use Rattle.array.specs.Moves.{electronic, swaps}
+use Rattle.array.specs.Answers.{accepted, verdict, sideCase, acceptedBy}
 
 -- no case of a list applies, and every case is a refusal
 abbrev pub NoneApplies : List Case → Type 0
@@ -38,3 +43,11 @@ same-verdict c cs a b h = go (c .applies) refl
     go : (t : Bool) → c .applies ≡ t → verdict (c ∷ cs) a ≡ verdict (c ∷ cs) b
     go true e = rw e
     go false e = rw (h e)
+
+-- the counts of a list that is not absurdly long are its counts
+pub accepted-counts : (rs : List Run) → electronic rs < 2 ^ 64 → swaps rs < 2 ^ 64 → acceptedBy rs ≡ accepted (electronic rs) (swaps rs)
+accepted-counts rs h k = ap₂ accepted (mod-eq-of-lt h) (mod-eq-of-lt k)
+
+-- where the side is one that is built the accepted answer may be any that agrees there
+pub board-verdict : (s : ℕ) (cs : List Case) (a b : Answer) → (isSide s ≡ true → a ≡ b) → verdict (sideCase s ∷ cs) a ≡ verdict (sideCase s ∷ cs) b
+board-verdict s cs a b h = same-verdict (sideCase s) cs a b (λ n. h (not-false (isSide s) n))

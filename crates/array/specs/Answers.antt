@@ -25,6 +25,10 @@ abbrev pub verdict : List Case → Answer → Answer
 verdict [] otherwise = otherwise
 verdict (c ∷ cs) otherwise = refusing c (verdict cs otherwise)
 
+-- what an entry leaves where its answer accepts, and where it refuses
+abbrev pub whereAccepted : {A : Type 0} → Answer → A → A → A
+whereAccepted a new old = cond (eqb (a .number) 0) new old
+
 -- 1: the side is not 1 to 8
 abbrev pub sideCase : ℕ → Case
 sideCase s = record { applies = not (isSide s); number = 1; place = 0 }

@@ -1,17 +1,17 @@
 -- `array::lists::whole_runs` meets its contract: the runs are filled one after the other.
 use Prim.Native.Nat.{_-_, _≤_}
 use mathlib.Core.Path.{ap}
-use lib.ListN.{length}
+use lib.ListN.{length, getD}
 use native.Mathlib.Omega.{arith}
 use borrow.Author.Needs.{needs}
-use Rattle.laws.proofs.Filling.{Filled, filled-start, filled-next, filled-end}
+use Rattle.laws.proofs.Filling.{Filled, filled-start, filled-next, filled-map}
 use Rattle.array.specs.declared.moves.Move.the-variants.{Swap}
 use Rattle.array.specs.Moves.{whole}
 use Rattle.array.proofs.lists.whole_runs.Statement.{statement}
 use Rattle.array.proofs.lists.whole_runs.Tie as tie
 
 abbrev Inv-loop : tie.InvT-loop
-Inv-loop n steps runs₀ q₀ runs q = (q ≤ 9) × Filled (whole n) Swap steps runs q
+Inv-loop n steps runs₀ q₀ runs q = (q ≤ 9) × Filled (λ k. whole n (getD steps k Swap)) (whole n Swap) (length steps) runs q
 
 abbrev μ-loop : tie.MeasureT-loop
 μ-loop n steps runs₀ q₀ runs q = 9 - q
@@ -20,7 +20,7 @@ no-runs-requires : tie.Need-no-runs-requires Inv-loop μ-loop
 no-runs-requires c κs = search needs
 
 loop-holds : tie.Need-loop-holds Inv-loop μ-loop
-loop-holds c = (search needs, filled-start _ _ _ _ (omega (arith, ap length (c .no-runs .ensures))))
+loop-holds c = (search needs, filled-start _ _ (omega (arith, ap length (c .no-runs .ensures))))
 
 mul-step : tie.Need-mul-step Inv-loop μ-loop
 mul-step c = search needs
@@ -44,10 +44,10 @@ loop-less : tie.Need-loop-less Inv-loop μ-loop
 loop-less c = search needs
 
 loop-again : tie.Need-loop-again Inv-loop μ-loop
-loop-again c = (search needs, filled-next _ _ _ _ _ _ (search needs) (c .whole .ensures) (c .before .before .before .loop .inv .1))
+loop-again c = (search needs, filled-next _ _ _ (search needs) (c .whole .ensures) (c .before .before .before .loop .inv .1))
 
 returns : tie.Need-returns Inv-loop μ-loop
-returns c = filled-end _ _ _ _ _ (search needs) (c .before .loop .inv .1)
+returns c = filled-map (whole _) Swap (c .before .before .before .args .t2) (search needs) (c .before .loop .inv .1)
 
 pub whole-runs-spec : {M : Type 1} → statement M
 whole-runs-spec =
