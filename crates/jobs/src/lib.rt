@@ -1,0 +1,1 @@
+// All that the job program does with its input, on lent slices.
