@@ -5,11 +5,13 @@ use mathlib.Core.Bool.{Bool, true, false, cond}
 use Prim.Native.Nat.{ℕ, suc, _+_, _-_, _≤_, _<_}
 use native.Mathlib.Omega.{arith}
 use lib.ListN.{length, getD, set, take, length-set}
-use lib.Dec.{leb, eqb}
+use lib.Dec.{leb, ltb, eqb}
 use borrow.Author.Tests.{lt-ltb, ne-eqb, eqb-true, eqb-false, leb-true, leb-false}
-use Rattle.jobtext.specs.Verdicts.{entryOf, Marked, Verdict, accepted, refused, also, cellsFrom, verdict}
-use Rattle.texts.specs.Lines.{Line, ended, unended}
-use Rattle.array.specs.Cells.{cells}
+use Rattle.jobtext.specs.Verdicts.{entryOf, Marked, Verdict, accepted, refused, also, cellsFrom, verdict, sideOf, jobFrom}
+use Rattle.texts.specs.Lines.{Line, ended, unended, linesOf}
+use Rattle.texts.specs.declared.read.Number.{Number}
+use Rattle.texts.specs.declared.read.Number.the-variants.{Of, Not}
+use Rattle.array.specs.Cells.{isSide, cells}
 use Rattle.jobtext.specs.Lanes.{laid}
 use Rattle.jobtext.specs.declared.Entry.{Entry}
 use Rattle.jobtext.specs.declared.Entry.the-variants.{Cell, Malformed}
@@ -45,7 +47,7 @@ unfoldable pub valueAt : (Marked → ℕ) → List Marked → ℕ → ℕ → �
 valueAt value [] i other = other
 valueAt value (e ∷ es) i other = cond (eqb i (e .index)) (value e) (valueAt value es i other)
 
-absent : (value : Marked → ℕ) (es : List Marked) (next end i other : ℕ) → i < next → Rising next end es → valueAt value es i other ≡ other
+pub absent : (value : Marked → ℕ) (es : List Marked) (next end i other : ℕ) → i < next → Rising next end es → valueAt value es i other ≡ other
 unfolding valueAt Rising
 absent value [] next end i other h r = refl
 absent value (e ∷ es) next end i other h r =
@@ -68,6 +70,38 @@ pub few : (es : List Marked) (next end : ℕ) → next ≤ end → Rising next e
 unfolding Rising
 few [] next end h r = omega arith
 few (e ∷ es) next end h r = omega (arith, few es (suc (e .index)) end (r .1) (r .2), r .0)
+
+-- what every job is known by: its side is one that is built, and its cells rise and are the board's
+abbrev pub Known : Verdict → Type 0
+Known (accepted s es) = (isSide s ≡ true) × Rising 0 (cells s) es
+Known (refused n p) = Unit {0}
+
+cells-known : (s : ℕ) (v : Verdict) → isSide s ≡ true → Sound s 0 v → Known v
+unfolding Sound
+cells-known s (accepted s′ es) e d = (rw (d .0) e, rw (d .0) (d .1))
+cells-known s (refused n p) e d = tt
+
+lines-known : (ls : List Line) → Known (jobFrom ls)
+unfolding jobFrom
+lines-known [] = tt
+lines-known (unended ∷ ls) = tt
+lines-known (ended line ∷ ls) = go (sideOf line) refl
+  where
+    by : (s : ℕ) (t : Bool) → isSide s ≡ t → Known (cond t (cellsFrom s 0 2 ls) (refused 1 0))
+    by s true e = cells-known s (cellsFrom s 0 2 ls) e (sound s 0 2 ls)
+    by s false e = tt
+
+    go : (n : Number) → sideOf line ≡ n → Known (jobFrom (ended line ∷ ls))
+    go (Of s) q = rw (q, jobFrom) (by s (isSide s) refl)
+    go Not q = rw (q, jobFrom) tt
+
+pub known : (text : List ℕ) → Known (verdict text)
+unfolding verdict
+known text = go (ltb 65536 (length text))
+  where
+    go : (t : Bool) → Known (cond t (refused 8 0) (jobFrom (linesOf text)))
+    go true = tt
+    go false = lines-known (linesOf text)
 
 -- A program that reads 65,537 bytes has read enough.
 pub enough : (text : List ℕ) → verdict (take 65537 text) ≡ verdict text
