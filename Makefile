@@ -1,8 +1,12 @@
 # The commands of the README.
-.PHONY: run test
+.PHONY: run test bench
 
 run:
 	@tests/run
 
 test:
 	@tests/all
+
+# times of the archive against a C stepper
+bench:
+	@tests/speed

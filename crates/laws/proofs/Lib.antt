@@ -1,3 +1,4 @@
+pub mod Blocks
 pub mod Bools
 pub mod Deciding
 pub mod Filling

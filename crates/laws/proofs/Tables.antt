@@ -1,10 +1,10 @@
 -- Laws of lists that are given by a rule for their entries: entry k of those from i on is f (i + k).
 use Prim.Native.Nat.{ℕ, zero, suc, _+_, _<_}
-use mathlib.Core.Path.{_≡_, refl, sym, ap, _∙_}
-use mathlib.Core.List.{List}
+use mathlib.Core.Path.{_≡_, refl, sym, ap, ap₂, _∙_}
+use mathlib.Core.List.{List, _∷_}
 use native.Mathlib.Nat.{add-zero, zero-add, add-suc, suc-add}
 use native.Mathlib.Omega.{arith}
-use lib.ListN.{length, getD}
+use lib.ListN.{length, getD, replicate}
 use lib.Seq.{ext-getD}
 use Rattle.laws.specs.Tables.{entries}
 
@@ -26,3 +26,19 @@ module _ {A : Type 0} (f : ℕ → A) where
   entries-all n d l e h =
       ext-getD d l (entries f 0 n) (e ∙ sym (length-entries 0 n))
       (λ k u. h k (omega arith) ∙ sym (entry-at n k d (omega arith)))
+
+-- rules that agree have the same entries
+cong-from : {A : Type 0} {f g : ℕ → A} (i n : ℕ) → ((k : ℕ) → k < i + n → f k ≡ g k) → entries f i n ≡ entries g i n
+cong-from i zero h = refl
+cong-from {A} i (suc n) h = ap₂ {C = List A} (λ x l. x ∷ l) (h i (omega arith)) (cong-from (suc i) n (λ k u. h k (omega arith)))
+
+pub entries-cong : {A : Type 0} {f g : ℕ → A} (n : ℕ) → ((k : ℕ) → k < n → f k ≡ g k) → entries f 0 n ≡ entries g 0 n
+entries-cong n h = cong-from 0 n (λ k u. h k (omega arith))
+
+-- a rule with one value
+same-from : {A : Type 0} (i n : ℕ) (x : A) → entries (λ k. x) i n ≡ replicate n x
+same-from i zero x = refl
+same-from {A} i (suc n) x = ap {B = List A} (λ l. x ∷ l) (same-from (suc i) n x)
+
+pub entries-same : {A : Type 0} {f : ℕ → A} (n : ℕ) (x : A) → ((k : ℕ) → k < n → f k ≡ x) → entries f 0 n ≡ replicate n x
+entries-same n x h = entries-cong n h ∙ same-from 0 n x

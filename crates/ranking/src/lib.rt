@@ -1,10 +1,21 @@
 // Rank: a marked cell's aim becomes the number of marked cells of smaller index. The marks are summed by the prefix sum's moves.
+use array::answers::Answer;
+use array::answers::lane_case;
+use array::answers::refusing;
+use array::answers::side_case;
+use array::lists::prefix_sum_runs;
+use array::logs::accepted_by;
+use array::logs::log_case;
+use array::logs::write_codes;
+use marks::marks_case;
+use words::sums::prefix_words;
 ghost use mathlib.Core.Path.{_≡_};
-ghost use Prim.Native.Nat.{ℕ, _≤_, _<_};
-ghost use lib.ListN.{length, getD};
+ghost use Prim.Native.Nat.{_≤_};
+ghost use lib.ListN.{length};
 ghost use Rattle.laws.specs.Tables.{entries};
-ghost use Rattle.ranking.specs.Ranks.{aimIn, aimOf};
-ghost use Rattle.ranking.specs.Inside.{Summed};
+ghost use Rattle.ranking.specs.Ranks.{aimIn, aimOf, ranks};
+ghost use Rattle.ranking.specs.Inside.{Summed, Marked};
+ghost use Rattle.ranking.specs.Entries.{rankAnswer, Ranked};
 
 fn wide(mark: u8) -> u32
     ensures { λ r. ⌜ r ≡ mark ⌝ }
@@ -50,4 +61,50 @@ fn unload(marks: &[u8], sums: &[u32], aims: &mut [u16])
         aims[i] = aim(mark, sum);
         i += 1;
     }
+}
+
+// The ranks, by way of the prefix sums of the marks, in a lane of words that is lent for them.
+fn rank_lanes(side: usize, marks: &[u8], sums: &mut [u32], aims: &mut [u16])
+    requires { ⌜ Marked side (now marks) ⌝ }
+    requires { ⌜ length (now marks) ≡ length (now sums) ⌝ }
+    requires { ⌜ length (now aims) ≡ length (now marks) ⌝ }
+    ensures { λ _. ⌜ now (aims .exit) ≡ ranks side (now (marks .entry)) ⌝ }
+{
+    load(marks, sums);
+    prefix_words(side, sums);
+    unload(marks, &sums[..], aims);
+}
+
+fn write_ranks(side: usize, marks: &[u8], aims: &mut [u16])
+    requires { ⌜ Marked side (now marks) ⌝ }
+    requires { ⌜ length (now aims) ≡ length (now marks) ⌝ }
+    ensures { λ _. ⌜ now (aims .exit) ≡ ranks side (now (marks .entry)) ⌝ }
+{
+    let mut sums = [0u32; 4096];
+    let n = marks.len();
+    rank_lanes(side, marks, &mut sums[..n], aims);
+}
+
+fn answer_of(side: usize, marks: &[u8], aims: usize, log: usize) -> Answer
+    ensures { λ r. ⌜ r ≡ rankAnswer side (now (marks .entry)) aims log ⌝ }
+{
+    let runs = prefix_sum_runs(side);
+    let marked = refusing(marks_case(marks), accepted_by(runs));
+    let room = refusing(log_case(runs, log), marked);
+    let aimed = refusing(lane_case(side, aims), room);
+    let sized = refusing(lane_case(side, marks.len()), aimed);
+    refusing(side_case(side), sized)
+}
+
+// Writes each marked cell's rank into its aim, and 0 into every other.
+pub fn rank(side: usize, marks: &[u8], aims: &mut [u16], codes: &mut [u8]) -> Answer
+    ensures { λ r. ⌜ Ranked side (now (marks .entry)) (now (aims .entry)) (now (codes .entry)) r (now (aims .exit)) (now (codes .exit)) ⌝ }
+{
+    let answer = answer_of(side, marks, aims.len(), codes.len());
+    if answer.number != 0 {
+        return answer;
+    }
+    write_ranks(side, marks, aims);
+    write_codes(prefix_sum_runs(side), codes, 0);
+    answer
 }

@@ -1,8 +1,7 @@
 -- `ranking::load` meets its contract: the words are filled from the marks.
 use Prim.Native.Nat.{_-_, _≤_}
-use mathlib.Core.Path.{_≡_, refl, sym, _∙_}
+use mathlib.Core.Path.{_∙_}
 use mathlib.Core.List.{map-id}
-use native.Mathlib.Omega.{arith}
 use lib.ListN.{length, getD}
 use borrow.Author.Needs.{needs}
 use Rattle.laws.proofs.Filling.{Filled, filled-start, filled-next, filled-map}

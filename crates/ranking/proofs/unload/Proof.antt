@@ -1,7 +1,6 @@
 -- `ranking::unload` meets its contract: the aims are filled with one less than the sums.
 use Prim.Native.Nat.{_-_, _≤_}
-use mathlib.Core.Path.{_≡_, _∙_}
-use native.Mathlib.Omega.{arith}
+use mathlib.Core.Path.{_∙_}
 use lib.ListN.{length}
 use borrow.Author.Needs.{needs}
 use Rattle.laws.proofs.Filling.{Filled, filled-start, filled-next, filled-end}

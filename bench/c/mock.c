@@ -1,0 +1,44 @@
+/* Stands in for the archive where there is none: the C stepper under the names of otis.h. It shows that the tests themselves
+ * run and pass on a program that does what they ask. */
+#include "stepper.h"
+
+struct otis_answer otis_rank(
+    size_t side,
+    const uint8_t *marks, size_t marks_length,
+    uint16_t *aims, size_t aims_length,
+    uint8_t *codes, size_t codes_length)
+{
+    return stepper_rank(side, marks, marks_length, aims, aims_length, codes, codes_length);
+}
+
+struct otis_answer otis_concentrate(
+    size_t side,
+    uint32_t *words, size_t words_length,
+    uint8_t *marks, size_t marks_length,
+    uint16_t *aims, size_t aims_length,
+    uint32_t *spare_words, size_t spare_words_length,
+    uint8_t *spare_marks, size_t spare_marks_length,
+    uint16_t *spare_aims, size_t spare_aims_length,
+    uint8_t *codes, size_t codes_length,
+    uint16_t *moved, size_t moved_length)
+{
+    return stepper_concentrate(
+        side, words, words_length, marks, marks_length, aims, aims_length, spare_words, spare_words_length,
+        spare_marks, spare_marks_length, spare_aims, spare_aims_length, codes, codes_length, moved, moved_length);
+}
+
+struct otis_answer otis_distribute(
+    size_t side,
+    uint32_t *words, size_t words_length,
+    uint8_t *marks, size_t marks_length,
+    uint16_t *aims, size_t aims_length,
+    uint32_t *spare_words, size_t spare_words_length,
+    uint8_t *spare_marks, size_t spare_marks_length,
+    uint16_t *spare_aims, size_t spare_aims_length,
+    uint8_t *codes, size_t codes_length,
+    uint16_t *moved, size_t moved_length)
+{
+    return stepper_distribute(
+        side, words, words_length, marks, marks_length, aims, aims_length, spare_words, spare_words_length,
+        spare_marks, spare_marks_length, spare_aims, spare_aims_length, codes, codes_length, moved, moved_length);
+}

@@ -1,0 +1,12 @@
+//! A second model of the board, written from the scope (document 01) alone.
+//!
+//! It shares no line and no idea of layout with the proved crates, so that a slip in one of the two shows as a difference.
+//! Where the board moves registers from cell to cell, this model says the result: a broadcast, a sum or a shift is worked
+//! out from the cell's index, and a record of concentrate is a number in a list with the cell where it stands.
+
+pub mod answers;
+pub mod board;
+pub mod job;
+pub mod moves;
+pub mod records;
+pub mod words;

@@ -1,0 +1,189 @@
+//! The job program: reads a job, and says what is to be printed.
+
+use super::answers::{judge_side, refuse, Answer, Judged, Refusal};
+use super::board::Board;
+use super::moves;
+use super::records::{self, Lanes, Lent, Operation};
+use super::words;
+
+const LONGEST: usize = 65_536;
+
+/// A job that nothing refuses: the marked cells, rising, each with its word.
+pub struct Job {
+    pub board: Board,
+    pub marked: Vec<(usize, u32)>,
+}
+
+/// What the program prints for a job.
+pub fn printed(input: &[u8]) -> String {
+    match parse(input) {
+        Ok(job) => moves_printed(&job),
+        Err(refusal) => refused_printed(refusal),
+    }
+}
+
+/// The states of concentrate, or of distribute back to the marked cells: for every cut and every record one line
+/// `cut<TAB>cell<TAB>slot<TAB>word<TAB>aim`, rising; slot 0 is the front, 1 the spare.
+pub fn cuts_printed(operation: Operation, input: &[u8]) -> String {
+    match parse(input) {
+        Ok(job) => states_printed(operation, &job),
+        Err(refusal) => refused_printed(refusal),
+    }
+}
+
+pub fn parse(input: &[u8]) -> Judged<Job> {
+    if input.len() > LONGEST {
+        return refuse(8, 0);
+    }
+    let mut lines = Lines { rest: input, number: 0 };
+    let board = parse_side(&mut lines)?;
+    let mut marked: Vec<(usize, u32)> = Vec::new();
+    while !lines.rest.is_empty() {
+        let (cell, word) = lines.next_line().and_then(cell_line).ok_or(lines.bad())?;
+        let rises = marked.last().is_none_or(|&(before, _)| cell > before);
+        if cell >= board.cells() || !rises {
+            return Err(lines.bad());
+        }
+        marked.push((cell, word));
+    }
+    Ok(Job { board, marked })
+}
+
+/// The input line by line, with the number of the line that was read last.
+struct Lines<'a> {
+    rest: &'a [u8],
+    number: usize,
+}
+
+impl<'a> Lines<'a> {
+    /// The next line without its LF; none if it does not end in one.
+    fn next_line(&mut self) -> Option<&'a [u8]> {
+        self.number += 1;
+        let end = self.rest.iter().position(|&byte| byte == b'\n')?;
+        let line = &self.rest[..end];
+        self.rest = &self.rest[end + 1..];
+        Some(line)
+    }
+
+    fn bad(&self) -> Refusal {
+        Refusal { number: 8, place: self.number }
+    }
+}
+
+fn parse_side(lines: &mut Lines) -> Judged<Board> {
+    let line = lines.next_line();
+    let side = line.and_then(side_line).ok_or(lines.bad())?;
+    judge_side(side)
+}
+
+fn side_line(line: &[u8]) -> Option<usize> {
+    let (name, side) = fields(line)?;
+    if name != b"side" {
+        return None;
+    }
+    number(side).map(|side| side as usize)
+}
+
+fn cell_line(line: &[u8]) -> Option<(usize, u32)> {
+    let (cell, word) = fields(line)?;
+    Some((number(cell)? as usize, number(word)?))
+}
+
+/// Two fields parted by one tab. A second tab stays in the second field, where no number has one.
+fn fields(line: &[u8]) -> Option<(&[u8], &[u8])> {
+    let tab = line.iter().position(|&byte| byte == b'\t')?;
+    Some((&line[..tab], &line[tab + 1..]))
+}
+
+/// Decimal up to 4,294,967,295, with no leading zero.
+fn number(digits: &[u8]) -> Option<u32> {
+    if digits.is_empty() || (digits[0] == b'0' && digits.len() > 1) {
+        return None;
+    }
+    let mut value: u32 = 0;
+    for &digit in digits {
+        if !digit.is_ascii_digit() {
+            return None;
+        }
+        value = value.checked_mul(10)?.checked_add((digit - b'0') as u32)?;
+    }
+    Some(value)
+}
+
+fn refused_printed(refusal: Refusal) -> String {
+    format!("refused\t{}\t{}\n", refusal.number, refusal.place)
+}
+
+/// The front lanes of a job, ranked.
+fn ranked(job: &Job) -> Lanes {
+    let mut front = Lanes::empty(job.board.cells());
+    for &(cell, word) in &job.marked {
+        front.words[cell] = word;
+        front.marks[cell] = 1;
+    }
+    let mut codes = vec![0; moves::prefix_sum(job.board).len()];
+    let answer = words::rank(job.board.side, &front.marks, &mut front.aims, &mut codes);
+    assert_eq!(answer.number, 0);
+    front
+}
+
+fn concentrated(job: &Job) -> (Answer, Lent) {
+    let length = moves::concentrate(job.board).len();
+    let mut lent = Lent {
+        front: ranked(job),
+        spare: Lanes::empty(job.board.cells()),
+        codes: vec![0; length],
+        moved: vec![0; length],
+    };
+    let answer = records::concentrate(job.board.side, &mut lent);
+    (answer, lent)
+}
+
+fn moves_printed(job: &Job) -> String {
+    let (answer, lent) = concentrated(job);
+    let mut text = String::from("move\tkind\tway\tmoved\n");
+    for (k, step) in moves::concentrate(job.board).iter().enumerate() {
+        text += &format!("{}\t{}\t{}\t{}\n", k + 1, step.kind(), step.way(), lent.moved[k]);
+    }
+    let moved: u32 = lent.moved.iter().map(|&moved| moved as u32).sum();
+    text += &format!("all\t{}\t{}\t{}\n", answer.electronic, answer.swaps, moved);
+    for cell in 0..job.marked.len() {
+        text += &format!("{}\t{}\n", cell, lent.front.words[cell]);
+    }
+    text
+}
+
+/// The frame that distribute takes back to the marked cells of the job.
+fn to_distribute(job: &Job) -> Lanes {
+    let mut front = Lanes::empty(job.board.cells());
+    for (rank, &(cell, word)) in job.marked.iter().enumerate() {
+        front.words[rank] = word;
+        front.marks[rank] = 1;
+        front.aims[rank] = cell as u16;
+    }
+    front
+}
+
+fn states_printed(operation: Operation, job: &Job) -> String {
+    let start = match operation {
+        Operation::Concentrate => ranked(job),
+        Operation::Distribute => to_distribute(job),
+    };
+    let mut text = String::new();
+    for (cut, (front, spare)) in records::states(operation, job.board, &start).iter().enumerate() {
+        text += &state_printed(cut, front, spare);
+    }
+    text
+}
+
+fn state_printed(cut: usize, front: &Lanes, spare: &Lanes) -> String {
+    let mut text = String::new();
+    for cell in 0..front.marks.len() {
+        for (slot, lanes) in [front, spare].iter().enumerate() {
+            if lanes.marks[cell] == 1 {
+                text += &format!("{cut}\t{cell}\t{slot}\t{}\t{}\n", lanes.words[cell], lanes.aims[cell]);
+            }
+        }
+    }
+    text
+}

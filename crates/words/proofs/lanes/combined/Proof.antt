@@ -1,0 +1,45 @@
+use Rattle.words.proofs.Composing.{minus-is}
+use borrow.Author.Needs.{needs}
+use Rattle.words.proofs.lanes.combined.Statement.{statement}
+use Rattle.words.proofs.lanes.combined.Tie as tie
+use Rattle.words.proofs.lanes.combined.Reads as reads
+use Rattle.words.proofs.lanes.combined.Lts as lts
+use Rattle.std.proofs.num.wrapping_add_u32.Reads as wrapping-add-u32-reads
+use Rattle.std.proofs.num.wrapping_sub_u32.Reads as wrapping-sub-u32-reads
+
+enum-told : tie.Need-enum-told
+enum-told c = search needs
+
+enum-told-2 : tie.Need-enum-told-2
+enum-told-2 c = search needs
+
+wrapping-add-u32-requires : tie.Need-wrapping-add-u32-requires
+wrapping-add-u32-requires c κs = search needs
+
+enum-told-3 : tie.Need-enum-told-3
+enum-told-3 c = search needs
+
+wrapping-sub-u32-requires : tie.Need-wrapping-sub-u32-requires
+wrapping-sub-u32-requires c κs = search needs
+
+returns : tie.Need-returns
+returns c = search needs
+
+returns-2 : tie.Need-returns-2
+returns-2 c = rw (c .before .enum-told2 .given .1) (c .wrapping-add-u32 .ensures)
+
+returns-3 : tie.Need-returns-3
+returns-3 c = rw (c .before .enum-told3 .given .1) (minus-is _ _ _ (c .before .before .before .fits .own .fits) (c .before .before .before .fits .x .fits) (c .wrapping-sub-u32 .ok) (c .wrapping-sub-u32 .ensures))
+
+pub combined-spec : {M : Type 1} → statement M
+combined-spec =
+    tie.close
+    (tie.spec
+    enum-told
+    enum-told-2
+    wrapping-add-u32-requires
+    enum-told-3
+    wrapping-sub-u32-requires
+    returns
+    returns-2
+    returns-3)

@@ -1,0 +1,48 @@
+use Rattle.words.proofs.Composing.{spread-moved}
+use borrow.Author.Needs.{needs}
+use Rattle.words.proofs.spreads.spread.Statement.{statement}
+use Rattle.words.proofs.spreads.spread.Tie as tie
+use Rattle.words.proofs.spreads.spread.Reads as reads
+use Rattle.words.proofs.spreads.spread.Lts as lts
+use Rattle.words.proofs.steps.run.Reads as run-reads
+
+sub-last : tie.Need-sub-last
+sub-last c = search needs
+
+run-requires : tie.Need-run-requires
+run-requires c κs = search needs
+
+sub-run : tie.Need-sub-run
+sub-run c = search needs
+
+run-requires-2 : tie.Need-run-requires-2
+run-requires-2 c κs = search needs
+
+run-requires-3 : tie.Need-run-requires-3
+run-requires-3 c κs = search needs
+
+sub-run-2 : tie.Need-sub-run-2
+sub-run-2 c = search needs
+
+run-requires-4 : tie.Need-run-requires-4
+run-requires-4 c κs = search needs
+
+same-length : tie.Need-same-length
+same-length c = search needs
+
+returns : tie.Need-returns
+returns c = spread-moved _ _ _ (c .before .before .before .before .before .before .before .before .before .before .before .before .before .before .run .ensures) (c .before .before .before .before .before .before .before .before .before .before .run2 .ensures) (c .before .before .before .before .before .before .run3 .ensures) (c .before .before .run4 .ensures)
+
+pub spread-spec : {M : Type 1} → statement M
+spread-spec =
+    tie.close
+    (tie.spec
+    sub-last
+    run-requires
+    sub-run
+    run-requires-2
+    run-requires-3
+    sub-run-2
+    run-requires-4
+    same-length
+    returns)

@@ -1,0 +1,49 @@
+use Rattle.words.proofs.Composing.{finish-moved}
+use borrow.Author.Needs.{needs}
+use Rattle.words.proofs.sums.finish.Statement.{statement}
+use Rattle.words.proofs.sums.finish.Tie as tie
+use Rattle.words.proofs.sums.finish.Reads as reads
+use Rattle.words.proofs.sums.finish.Lts as lts
+use Rattle.words.proofs.lanes.combine.Reads as combine-reads
+use Rattle.words.proofs.steps.run.Reads as run-reads
+
+sub-last : tie.Need-sub-last
+sub-last c = search needs
+
+run-requires : tie.Need-run-requires
+run-requires c κs = search needs
+
+combine-requires : tie.Need-combine-requires
+combine-requires c κs = search needs
+
+combine-requires-2 : tie.Need-combine-requires-2
+combine-requires-2 c κs = search needs
+
+run-requires-2 : tie.Need-run-requires-2
+run-requires-2 c κs = search needs
+
+combine-requires-3 : tie.Need-combine-requires-3
+combine-requires-3 c κs = search needs
+
+same-length : tie.Need-same-length
+same-length c = search needs
+
+same-length-2 : tie.Need-same-length-2
+same-length-2 c = search needs
+
+returns : tie.Need-returns
+returns c = finish-moved _ (search needs) (search needs) (search needs) (c .before .before .before .before .before .before .before .before .before .before .before .before .before .before .before .before .before .before .before .before .run .ensures) (c .before .before .before .before .before .before .before .before .before .before .before .before .before .before .before .before .combine .ensures) (c .before .before .before .before .before .before .before .before .before .before .before .combine2 .ensures) (c .before .before .before .before .before .before .before .run2 .ensures) (c .before .before .combine3 .ensures)
+
+pub finish-spec : {M : Type 1} → statement M
+finish-spec =
+    tie.close
+    (tie.spec
+    sub-last
+    run-requires
+    combine-requires
+    combine-requires-2
+    run-requires-2
+    combine-requires-3
+    same-length
+    same-length-2
+    returns)

@@ -1,0 +1,120 @@
+// The eight shifts, on a lane.
+use crate::lanes::Combining;
+use crate::lanes::combine;
+use crate::steps::Joining;
+use crate::steps::position;
+use crate::steps::run;
+use array::moves::Way;
+use array::moves::opposite;
+use array::shifts::Axis;
+use array::shifts::Edge;
+use light::swap_words;
+ghost use mathlib.Core.Path.{_≡_};
+ghost use mathlib.Core.Bool.{cond};
+ghost use Prim.Native.Nat.{_≤_};
+ghost use lib.ListN.{length};
+ghost use Rattle.words.specs.Inside.{Board, Moved, takes as takesOf, chosen, swapped, meshShift, shiftOn};
+
+// Whether a cell at position p takes the word that came so many moves home, and not the one that came forth.
+fn takes(edge: Edge, forth: usize, home: usize, p: usize) -> bool
+    ensures { λ r. ⌜ r ≡ takesOf edge forth home p ⌝ }
+{
+    if home == 0 {
+        return false;
+    }
+    match edge {
+        Edge::ZeroFill => true,
+        Edge::Circular => p < forth,
+    }
+}
+
+fn choose(
+    words: &mut [u32],
+    back: &[u32],
+    side: usize,
+    way: Way,
+    edge: Edge,
+    forth: usize,
+    home: usize,
+)
+    requires { ⌜ Board side (length (now words)) ⌝ }
+    requires { ⌜ length (now back) ≡ length (now words) ⌝ }
+    ensures { λ _. ⌜ now (words .exit) ≡ chosen side way edge forth home (now (words .entry)) (now (back .entry)) ⌝ }
+{
+    let n = side * side;
+    let mut i = 0;
+    while i < words.len() {
+        let p = position(side, way, i % n);
+        let v = pick(takes(edge, forth, home, p), back[i], words[i]);
+        words[i] = v;
+        i += 1;
+    }
+}
+
+fn pick(first: bool, x: u32, y: u32) -> u32
+    ensures { λ r. ⌜ r ≡ cond first x y ⌝ }
+{
+    if first { x } else { y }
+}
+
+// A shift inside the groups: what goes forth in words, what goes home in back.
+fn shift_lanes(
+    words: &mut [u32],
+    back: &mut [u32],
+    side: usize,
+    way: Way,
+    edge: Edge,
+    forth: usize,
+    home: usize,
+)
+    requires { ⌜ Board side (length (now words)) ⌝ }
+    requires { ⌜ length (now back) ≡ length (now words) ⌝ }
+    requires { ⌜ (forth ≤ 8) × (home ≤ 8) ⌝ }
+    ensures { λ _. ⌜ Moved side (meshShift side way edge forth home) (now (words .entry)) (now (words .exit)) ⌝ }
+{
+    combine(back, &words[..], Combining::Take);
+    run(words, side, way, Joining::Fill, 0, forth);
+    run(back, side, opposite(way), Joining::Fill, 0, home);
+    choose(words, &back[..], side, way, edge, forth, home);
+}
+
+fn shift_mesh(words: &mut [u32], side: usize, way: Way, edge: Edge, forth: usize, home: usize)
+    requires { ⌜ Board side (length (now words)) ⌝ }
+    requires { ⌜ (forth ≤ 8) × (home ≤ 8) ⌝ }
+    ensures { λ _. ⌜ Moved side (meshShift side way edge forth home) (now (words .entry)) (now (words .exit)) ⌝ }
+{
+    let mut back = [0u32; 4096];
+    let n = words.len();
+    shift_lanes(words, &mut back[..n], side, way, edge, forth, home);
+}
+
+// A shift of groups: a swap, the same inside the groups, a swap.
+fn shift_groups(words: &mut [u32], side: usize, way: Way, edge: Edge, forth: usize, home: usize)
+    requires { ⌜ Board side (length (now words)) ⌝ }
+    requires { ⌜ (forth ≤ 8) × (home ≤ 8) ⌝ }
+    ensures { λ _. ⌜ Moved side (λ σ. swapped (meshShift side way edge forth home (swapped σ))) (now (words .entry)) (now (words .exit)) ⌝ }
+{
+    swap_words(side, words);
+    shift_mesh(words, side, way, edge, forth, home);
+    swap_words(side, words);
+}
+
+pub(crate) fn shift_all(
+    words: &mut [u32],
+    side: usize,
+    axis: Axis,
+    edge: Edge,
+    forth: usize,
+    home: usize,
+)
+    requires { ⌜ Board side (length (now words)) ⌝ }
+    requires { ⌜ (forth ≤ 8) × (home ≤ 8) ⌝ }
+    ensures { λ _. ⌜ Moved side (shiftOn side axis edge forth home) (now (words .entry)) (now (words .exit)) ⌝ }
+{
+    match axis {
+        Axis::MeshRow => shift_mesh(words, side, Way::Right, edge, forth, home),
+        Axis::MeshColumn => shift_mesh(words, side, Way::Down, edge, forth, home),
+        Axis::GroupRow => shift_groups(words, side, Way::Right, edge, forth, home),
+        Axis::GroupColumn => shift_groups(words, side, Way::Down, edge, forth, home),
+    }
+}

@@ -1,0 +1,153 @@
+/* Rank, concentrate and distribute of a synchronous SIMD OTIS-Mesh of side 1 to 8.
+ *
+ * The functions are in the archive libcapi.a. They keep nothing between two calls, take no memory and write no file; calls
+ * on tables that do not overlap may run at the same time. For C99 and later, and for C++.
+ *
+ * THE BOARD. Side s has s * s groups of s * s cells, s * s * s * s cells in all (OTIS_CELLS). Cell P of group G has the
+ * index G * s * s + P, and place P lies at row P / s, column P % s.
+ *
+ * LANES. A lane is an array with one entry for each cell, in the order of the index: its length is exactly OTIS_CELLS(s).
+ *     words       0 to 4294967295
+ *     marks       0 or 1: whether the cell holds a record
+ *     aims        a cell number: where the record goes
+ *     spare_*     the same three for a cell's second record during a run. Whatever they hold before a call is never looked
+ *                 at; after an accepted call they hold 0 in every entry.
+ *
+ * LOGS. A log has one entry for each move, OTIS_MOVES(s) of them. It may be longer; its tail then stays as it was.
+ *     codes       the move: OTIS_SWAP, OTIS_RIGHT, OTIS_LEFT, OTIS_UP or OTIS_DOWN
+ *     moved       how many records changed cell in the move
+ *
+ * SLICES. Each array is passed as a pointer and its number of entries. The caller owns all of it, before, during and after
+ * the call; nothing is kept. A pointer may be null only where its length is 0. No two arrays of one call may overlap, and
+ * nobody else may write them (or read those that the call writes) until it returns.
+ *
+ * ANSWERS. An accepted call has number 0, place 0 and the numbers of electronic moves and of swaps made: 7 * (s - 1) and 2.
+ * A refused call has its number and place, and both counts 0. A REFUSAL CHANGES NOTHING in any array. Where more than one
+ * applies, the lowest number is given:
+ *
+ *     number               given exactly when                                              place
+ *     OTIS_BAD_SIDE    1   side is not 1 to 8                                              0
+ *     OTIS_BAD_LANE    2   a lane, front or spare, is not exactly OTIS_CELLS(side) long    0
+ *     OTIS_SHORT_LOG   3   a log is shorter than OTIS_MOVES(side)                          0
+ *     OTIS_BAD_MARK    5   an entry of marks is neither 0 nor 1                            first such cell
+ *     OTIS_BAD_AIM     6   the aims do not fit: see each function (rank never)             first such cell
+ *
+ * (4, 7 and 8 belong to operations that are not offered here.)
+ *
+ * WHAT IS TRUSTED. The functions are proved to do what is said here on every side and on every array that is as long as its
+ * length says. Nothing proves this file: that these declarations name the same parameters, in the same order and of the
+ * same widths as the archive, that a length is true and that arrays do not overlap. A wrong declaration, here or in
+ * another language, is seen by no compiler and no linker; the differential tests in bench/ are all that would notice.
+ */
+#ifndef OTIS_H
+#define OTIS_H
+
+#include <stddef.h>
+#include <stdint.h>
+
+#ifdef __cplusplus
+extern "C" {
+#endif
+
+/* How many cells a board of that side has: the length of every lane. Only for sides 1 to 8. */
+#define OTIS_CELLS(side) ((size_t)(side) * (size_t)(side) * (size_t)(side) * (size_t)(side))
+
+/* How many moves each of the three operations makes: the least length of every log. Only for sides 1 to 8. */
+#define OTIS_MOVES(side) (7 * ((size_t)(side) - 1) + 2)
+
+/* For arrays that serve every side. */
+#define OTIS_MOST_CELLS 4096
+#define OTIS_MOST_MOVES 51
+
+/* The entries of codes. */
+enum otis_code {
+    OTIS_SWAP = 0,
+    OTIS_RIGHT = 1,
+    OTIS_LEFT = 2,
+    OTIS_UP = 3,
+    OTIS_DOWN = 4
+};
+
+/* The numbers of an answer. */
+enum otis_number {
+    OTIS_ACCEPTED = 0,
+    OTIS_BAD_SIDE = 1,
+    OTIS_BAD_LANE = 2,
+    OTIS_SHORT_LOG = 3,
+    OTIS_BAD_MARK = 5,
+    OTIS_BAD_AIM = 6
+};
+
+struct otis_answer {
+    size_t number;     /* 0, or the number of the refusal */
+    size_t place;      /* the cell that a refusal names, else 0 */
+    size_t electronic; /* electronic moves made */
+    size_t swaps;      /* swaps made */
+};
+
+/* Ranks the marked cells.
+ *
+ *     marks   lane, read
+ *     aims    lane, written: in a marked cell the number of marked cells of smaller index, so ranks start at 0;
+ *             in any other cell 0. Its entries before are never looked at.
+ *     codes   log, written: right, down, swap, right, down, left, swap, up, left, each run s - 1 moves and a swap one
+ *
+ * Refusals: 1, 2, 3, 5.
+ */
+struct otis_answer otis_rank(
+    size_t side,
+    const uint8_t *marks, size_t marks_length,
+    uint16_t *aims, size_t aims_length,
+    uint8_t *codes, size_t codes_length);
+
+/* Concentrates the marked cells to the front of the board. Every marked cell's aim must be its rank, as otis_rank gives it.
+ *
+ *     words, marks, aims   lanes, read and written. With b cells marked, afterwards cell r, r < b, holds the word of rank
+ *                          r, mark 1 and aim r, and every other cell 0 in all three. Words and aims of unmarked cells are
+ *                          ignored and cleared.
+ *     spare_words, spare_marks, spare_aims   lanes, written: 0 afterwards
+ *     codes   log, written: right, left, up, down, swap, right, left, up, swap, each run s - 1 moves and a swap one
+ *     moved   log, written
+ *
+ * Refusals: 1, 2, 3, 5; 6 at the first marked cell whose aim is not its rank.
+ */
+struct otis_answer otis_concentrate(
+    size_t side,
+    uint32_t *words, size_t words_length,
+    uint8_t *marks, size_t marks_length,
+    uint16_t *aims, size_t aims_length,
+    uint32_t *spare_words, size_t spare_words_length,
+    uint8_t *spare_marks, size_t spare_marks_length,
+    uint16_t *spare_aims, size_t spare_aims_length,
+    uint8_t *codes, size_t codes_length,
+    uint16_t *moved, size_t moved_length);
+
+/* Takes the records in the first cells to the cells that their aims name: concentrate backwards, state by state.
+ *
+ *     words, marks, aims   lanes, read and written. The marks must be 1 exactly in the cells 0 to b - 1 for some b, their
+ *                          aims strictly rising and below OTIS_CELLS(side). Afterwards the cell that an aim names holds
+ *                          that record's word, mark 1 and the same aim, and every other cell 0 in all three. Words and
+ *                          aims of unmarked cells are ignored and cleared.
+ *     spare_words, spare_marks, spare_aims   lanes, written: 0 afterwards
+ *     codes   log, written: swap, down, right, left, swap, up, down, right, left, each run s - 1 moves and a swap one
+ *     moved   log, written
+ *
+ * Refusals: 1, 2, 3, 5; 6 at the first cell that is marked after an unmarked one, or whose marked aim is not below
+ * OTIS_CELLS(side), or not above the aim of the cell before it.
+ */
+struct otis_answer otis_distribute(
+    size_t side,
+    uint32_t *words, size_t words_length,
+    uint8_t *marks, size_t marks_length,
+    uint16_t *aims, size_t aims_length,
+    uint32_t *spare_words, size_t spare_words_length,
+    uint8_t *spare_marks, size_t spare_marks_length,
+    uint16_t *spare_aims, size_t spare_aims_length,
+    uint8_t *codes, size_t codes_length,
+    uint16_t *moved, size_t moved_length);
+
+#ifdef __cplusplus
+}
+#endif
+
+#endif
