@@ -32,7 +32,7 @@ loop-less : tie.Need-loop-less Inv-loop μ-loop
 loop-less c = search needs
 
 loop-again : tie.Need-loop-again Inv-loop μ-loop
-loop-again c = search records-next
+loop-again c = records-next (c .before .before .before .before .before .before .before .before .before .args .words .now) (c .before .before .before .before .before .before .loop .inv) (search needs) (c .before .before .put-record .ensures)
 
 same-length : tie.Need-same-length Inv-loop μ-loop
 same-length c = search needs
