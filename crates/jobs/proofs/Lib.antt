@@ -1,3 +1,4 @@
 pub mod Shown
 pub mod Ranks
 pub mod Filling
+pub mod Solved
