@@ -4,6 +4,8 @@ pub mod Deciding
 pub mod Filling
 pub mod Numbers
 pub mod Reversed
+pub mod Rewriting
+pub mod Searching
 pub mod Setting
 pub mod Stores
 pub mod Sums

@@ -1,2 +1,3 @@
+pub mod Searching
 pub mod Sums
 pub mod Tables

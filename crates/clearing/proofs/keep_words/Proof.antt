@@ -1,0 +1,72 @@
+use Prim.Native.Nat.{_-_, _≤_}
+use mathlib.Core.Path.{_≡_, refl, sym, _∙_}
+use mathlib.Core.Logic.{⊎-elim}
+use native.Mathlib.Omega.{arith}
+use borrow.Author.Needs.{needs}
+use borrow.Author.Tests.{eq-eqb, ne-eqb}
+use lib.ListN.{length, getD}
+use Rattle.laws.proofs.Rewriting.{Rewriting, rewriting-start, rewriting-store, rewriting-keep, rewriting-end}
+use Rattle.clearing.specs.Cleared.{keptAt}
+use Rattle.clearing.proofs.keep_words.Statement.{statement}
+use Rattle.clearing.proofs.keep_words.Tie as tie
+use Rattle.clearing.proofs.keep_words.Reads as reads
+use Rattle.clearing.proofs.keep_words.Lts as lts
+use Rattle.clearing.proofs.mark_at.Reads as mark-at-reads
+
+abbrev Inv-loop : tie.InvT-loop
+Inv-loop marks lane₀ i₀ lane i = (i ≤ length lane₀) × Rewriting (keptAt marks lane₀) 0 lane₀ lane i
+
+abbrev μ-loop : tie.MeasureT-loop
+μ-loop marks lane₀ i₀ lane i = length lane₀ - i
+
+loop-holds : tie.Need-loop-holds Inv-loop μ-loop
+loop-holds c = (omega arith, rewriting-start (keptAt (c .before .before .args .marks .now) (c .before .before .args .lane .now)) 0 (c .before .before .args .lane .now))
+
+mark-at-requires : tie.Need-mark-at-requires Inv-loop μ-loop
+mark-at-requires c κs = search needs
+
+mul-lane : tie.Need-mul-lane Inv-loop μ-loop
+mul-lane c = search needs
+
+slice-write-lane : tie.Need-slice-write-lane Inv-loop μ-loop
+slice-write-lane c = omega (arith, c .before .before .loop-test .taken)
+
+add-i : tie.Need-add-i Inv-loop μ-loop
+add-i c = omega (arith, c .before .before .loop-test .taken, c .before .before .before .loop .inv .1 .long)
+
+loop-less : tie.Need-loop-less Inv-loop μ-loop
+loop-less c = omega (arith, c .before .before .loop-test .taken, c .before .before .before .loop .inv .1 .long)
+
+loop-again : tie.Need-loop-again Inv-loop μ-loop
+loop-again c =
+    let s = c .before .before .before .before .before .before in
+    let l = c .before .before .before .loop in
+    let f = keptAt (s .args .marks .now) (s .args .lane .now) in (
+      omega (arith, c .before .before .loop-test .taken, l .inv .1 .long),
+      ⊎-elim
+          (λ w. rw (w .1) (rewriting-store f 0 (s .args .lane .now) 0 (c .before .before .loop-test .taken) (sym (rw (ne-eqb _ _ (λ e. w .0 .taken (c .before .mark-at .ensures ∙ e))))) (l .inv .1)))
+          (λ w. rw (w .1) (rewriting-keep f 0 (s .args .lane .now) (sym (rw (eq-eqb _ _ (sym (c .before .mark-at .ensures) ∙ w .0 .left)))) (l .inv .1)))
+          (c .if1 .came),
+    )
+
+same-length : tie.Need-same-length Inv-loop μ-loop
+same-length c = c .before .loop .inv .1 .long
+
+returns : tie.Need-returns Inv-loop μ-loop
+returns c = rewriting-end (keptAt (c .before .before .before .before .args .marks .now) (c .before .before .before .before .args .lane .now)) 0 (c .before .before .before .before .args .lane .now) (c .loop-test .left) (c .before .loop .inv .1)
+
+pub keep-words-spec : {M : Type 1} → statement M
+keep-words-spec =
+    tie.close
+    (tie.spec
+    Inv-loop
+    μ-loop
+    loop-holds
+    mark-at-requires
+    mul-lane
+    slice-write-lane
+    add-i
+    loop-less
+    loop-again
+    same-length
+    returns)

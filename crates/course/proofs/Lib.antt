@@ -1,0 +1,4 @@
+pub mod Content
+pub mod Course
+pub mod Holds
+pub mod Standing

@@ -1,0 +1,1 @@
+// What the mover does to records: laws only.

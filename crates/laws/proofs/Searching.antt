@@ -1,0 +1,54 @@
+-- A search for the first number of which a test holds, number after number.
+use Prim.Native.Nat.{ℕ, zero, suc, _+_, _-_, _≤_, _<_}
+use mathlib.Core.Path.{_≡_, refl, sym, ap, _∙_}
+use mathlib.Core.Bool.{Bool, true, false, cond}
+use mathlib.Core.Logic.{⊎-elim}
+use native.Mathlib.Nat.{add-zero, sub-zero}
+use native.Mathlib.Numerals.{add-one}
+use native.Mathlib.Omega.{arith}
+use borrow.Author.Tests.{ltb-false}
+use lib.Dec.{ltb}
+use Rattle.laws.specs.Searching.{firstFrom, first}
+
+-- the test holds of no number below i
+pub record Searching (test : ℕ → Bool) (n i : ℕ) : Type 0 where
+  pub inside : i ≤ n
+  pub left : first test n ≡ firstFrom test i (n - i)
+
+module _ (test : ℕ → Bool) (n : ℕ) where
+  pub searching-start : Searching test n 0
+  searching-start = record { inside = omega arith; left = rw sub-zero }
+
+  open-up : (i : ℕ) → i < n → firstFrom test i (n - i) ≡ cond (test i) i (firstFrom test (i + 1) (n - (i + 1)))
+  open-up i h =
+      let e : n - i ≡ suc (n - (i + 1)) = omega arith in
+      rw (e, add-one i)
+
+  pub searching-next : {i : ℕ} → i < n → test i ≡ false → Searching test n i → Searching test n (i + 1)
+  searching-next {i} h e z = record { inside = omega arith; left = z .left ∙ open-up i h ∙ rw e }
+
+  pub searching-found : {i : ℕ} → i < n → test i ≡ true → Searching test n i → first test n ≡ i
+  searching-found {i} h e z = z .left ∙ open-up i h ∙ rw e
+
+  pub searching-none : {i : ℕ} → n ≤ i → Searching test n i → first test n ≡ n
+  searching-none {i} h z =
+      let e : n - i ≡ 0 = omega arith in
+      let f : i ≡ n = omega (arith, z .inside) in
+      z .left ∙ rw e f
+
+  -- none is found just where the test holds of none
+  none-from : (i m : ℕ) → i + m ≤ firstFrom test i m → (k : ℕ) → k < m → test (i + k) ≡ false
+  none-from i zero h k l = absurd (omega arith)
+  none-from i (suc m) h k l = go (test i) refl h (none-from (suc i) m) k l
+    where
+      go : (b : Bool) → test i ≡ b → i + suc m ≤ cond b i (firstFrom test (suc i) m) → (suc i + m ≤ firstFrom test (suc i) m → (k : ℕ) → k < m → test (suc i + k) ≡ false) → (k : ℕ) → k < suc m → test (i + k) ≡ false
+      go true e h rest k l = absurd (omega arith)
+      go false e h rest zero l = rw add-zero e
+      go false e h rest (suc k) l =
+          let f : i + suc k ≡ suc i + k = omega arith in
+          rw f (rest (omega arith) k (omega arith))
+
+  pub none-found : ltb (first test n) n ≡ false → (k : ℕ) → k < n → test k ≡ false
+  none-found h k l =
+      let e : 0 + k ≡ k = omega arith in
+      rw e at (none-from 0 n (omega (arith, ltb-false (first test n) n h)) k l)

@@ -1,0 +1,14 @@
+use borrow.Author.Tests.{eq-eqb, ne-eqb}
+use Rattle.mesh.proofs.cells.count.Statement.{statement}
+use Rattle.mesh.proofs.cells.count.Tie as tie
+use Rattle.mesh.proofs.cells.count.Reads as reads
+use Rattle.mesh.proofs.cells.count.Lts as lts
+
+returns : tie.Need-returns
+returns c = rw (eq-eqb _ _ (c .if1 .taken))
+
+returns-2 : tie.Need-returns-2
+returns-2 c = rw (ne-eqb _ _ (c .if1 .left))
+
+pub count-spec : {M : Type 1} → statement M
+count-spec = tie.close (tie.spec returns returns-2)

@@ -1,0 +1,58 @@
+use borrow.Author.Needs.{needs}
+use Rattle.mesh.proofs.moving.turn.Statement.{statement}
+use Rattle.mesh.proofs.moving.turn.Tie as tie
+use Rattle.mesh.proofs.moving.turn.Reads as reads
+use Rattle.mesh.proofs.moving.turn.Lts as lts
+
+enum-told : tie.Need-enum-told
+enum-told c = search needs
+
+sub-result : tie.Need-sub-result
+sub-result c = search needs
+
+sub-result-2 : tie.Need-sub-result-2
+sub-result-2 c = search needs
+
+enum-told-2 : tie.Need-enum-told-2
+enum-told-2 c = search needs
+
+enum-told-3 : tie.Need-enum-told-3
+enum-told-3 c = search needs
+
+enum-told-4 : tie.Need-enum-told-4
+enum-told-4 c = search needs
+
+sub-result-3 : tie.Need-sub-result-3
+sub-result-3 c = search needs
+
+sub-result-4 : tie.Need-sub-result-4
+sub-result-4 c = search needs
+
+returns : tie.Need-returns
+returns c = rw (c .enum-told .given .1)
+
+returns-2 : tie.Need-returns-2
+returns-2 c = search needs
+
+returns-3 : tie.Need-returns-3
+returns-3 c = search needs
+
+returns-4 : tie.Need-returns-4
+returns-4 c = rw (c .enum-told4 .given .1)
+
+pub turn-spec : {M : Type 1} → statement M
+turn-spec =
+    tie.close
+    (tie.spec
+    enum-told
+    sub-result
+    sub-result-2
+    enum-told-2
+    enum-told-3
+    enum-told-4
+    sub-result-3
+    sub-result-4
+    returns
+    returns-2
+    returns-3
+    returns-4)

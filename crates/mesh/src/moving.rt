@@ -1,0 +1,349 @@
+// One electronic move: every record that goes leaves its cell for the next one along the way. All groups make the same move.
+use crate::cells::Cell;
+use crate::cells::Rec;
+use crate::cells::are_lanes;
+use crate::cells::joined;
+use crate::cells::nothing;
+use crate::cells::put;
+use crate::cells::read;
+use array::moves::Way;
+ghost use mathlib.Core.Path.{_≡_};
+ghost use mathlib.Core.Bool.{true};
+ghost use Prim.Native.Nat.{ℕ, _+_, _-_, _*_, _<_, _≤_};
+ghost use lib.ListN.{length};
+ghost use Rattle.array.specs.Cells.{isSide, groups, cells, onward as onwardOf};
+ghost use Rattle.mesh.specs.Cells.{Sized, cellAt, areLanes};
+ghost use Rattle.mesh.specs.Digits.{unitOf, scaleOf, coordinate as coordinateOf, span as spanOf, turnOf};
+ghost use Rattle.mesh.specs.Mesh.{goesIn, goerOf, stayedOf};
+ghost use Rattle.mesh.specs.Moved.{Sent, MovedGroup, MovedPart, MovedLanes};
+
+// One move of a list: the way, whether a record heads for its aim mod N (low) or div N, and how far off it waits.
+pub struct Rule {
+    pub side: usize,
+    pub way: Way,
+    pub low: bool,
+    pub wait: usize,
+}
+
+// A cell taken apart: the record that leaves it, and what stays.
+struct Parted {
+    goer: Rec,
+    rest: Cell,
+}
+
+// a - b, or 0 where b is the greater.
+fn over(a: usize, b: usize) -> usize
+    ensures { λ r. ⌜ r ≡ a - b ⌝ }
+{
+    if b <= a { a - b } else { 0 }
+}
+
+fn wide(x: u16) -> usize
+    ensures { λ r. ⌜ r ≡ x ⌝ }
+{
+    x as usize
+}
+
+// The weight of the aim's digit that is a column.
+fn unit(side: usize, low: bool) -> usize
+    requires { ⌜ isSide side ≡ true ⌝ }
+    ensures { λ r. ⌜ (r ≡ unitOf side low) × (0 < r) × (r ≤ 64) ⌝ }
+{
+    if low { 1 } else { side * side }
+}
+
+// The weight of the digit of an aim that the way goes by.
+fn scale(t: Rule) -> usize
+    requires { ⌜ isSide (t .side) ≡ true ⌝ }
+    ensures { λ r. ⌜ (r ≡ scaleOf t) × (0 < r) ⌝ }
+{
+    let column = unit(t.side, t.low);
+    let way = t.way;
+    match way {
+        Way::Right => column,
+        Way::Left => column,
+        Way::Up => column * t.side,
+        Way::Down => column * t.side,
+    }
+}
+
+// The column or the row of a place.
+fn coordinate(side: usize, way: Way, at: usize) -> usize
+    requires { ⌜ 0 < side ⌝ }
+    ensures { λ r. ⌜ r ≡ coordinateOf side way at ⌝ }
+{
+    match way {
+        Way::Right => at % side,
+        Way::Left => at % side,
+        Way::Up => at / side,
+        Way::Down => at / side,
+    }
+}
+
+// How far `to` lies from `at`, one way.
+fn span(way: Way, to: usize, at: usize) -> usize
+    ensures { λ r. ⌜ r ≡ spanOf way to at ⌝ }
+{
+    match way {
+        Way::Right => over(to, at),
+        Way::Left => over(at, to),
+        Way::Up => over(at, to),
+        Way::Down => over(to, at),
+    }
+}
+
+// Whether a record goes.
+fn goes(t: Rule, scale: usize, at: usize, x: Rec) -> bool
+    requires { ⌜ isSide (t .side) ≡ true ⌝ }
+    requires { ⌜ (scale ≡ scaleOf t) × (0 < scale) × (at < groups (t .side)) ⌝ }
+    ensures { λ r. ⌜ r ≡ goesIn t at x ⌝ }
+{
+    if x.mark == 0 {
+        return false;
+    }
+    let way = t.way;
+    let digit = wide(x.aim) / scale % t.side;
+    t.wait < span(way, digit, coordinate(t.side, way, at))
+}
+
+// A cell taken apart: the front record leaves where it goes, or else the spare one.
+fn part(t: Rule, scale: usize, at: usize, c: Cell) -> Parted
+    requires { ⌜ isSide (t .side) ≡ true ⌝ }
+    requires { ⌜ (scale ≡ scaleOf t) × (0 < scale) × (at < groups (t .side)) ⌝ }
+    ensures { λ r. ⌜ (r .goer ≡ goerOf t at c) × (r .rest ≡ stayedOf t at c) ⌝ }
+{
+    let front = c.front;
+    let spare = c.spare;
+    let none = nothing();
+    if goes(t, scale, at, front) {
+        let rest = Cell {
+            front: spare,
+            spare: none,
+        };
+        return Parted {
+            goer: front,
+            rest: rest,
+        };
+    }
+    if goes(t, scale, at, spare) {
+        let rest = Cell {
+            front: front,
+            spare: none,
+        };
+        return Parted {
+            goer: spare,
+            rest: rest,
+        };
+    }
+    Parted {
+        goer: none,
+        rest: c,
+    }
+}
+
+// The next place along the way.
+fn onward(side: usize, way: Way, at: usize) -> usize
+    requires { ⌜ (side ≤ 8) × (at < 64) ⌝ }
+    ensures { λ r. ⌜ r ≡ onwardOf side way at ⌝ }
+{
+    match way {
+        Way::Right => at + 1,
+        Way::Left => over(at, 1),
+        Way::Up => over(at, side),
+        Way::Down => at + side,
+    }
+}
+
+// The place of turn k of n: from the far end back, so that what is sent on is not met again.
+fn turn(way: Way, n: usize, k: usize) -> usize
+    requires { ⌜ k < n ⌝ }
+    ensures { λ r. ⌜ r ≡ turnOf way n k ⌝ }
+{
+    match way {
+        Way::Right => n - 1 - k,
+        Way::Left => k,
+        Way::Up => k,
+        Way::Down => n - 1 - k,
+    }
+}
+
+// One place of a group sends on the record that leaves it, if one does; how many did. Where none leaves nothing is stored.
+fn send(
+    t: Rule,
+    scale: usize,
+    n: usize,
+    at: usize,
+    words: &mut [u32],
+    marks: &mut [u8],
+    aims: &mut [u16],
+    spare_words: &mut [u32],
+    spare_marks: &mut [u8],
+    spare_aims: &mut [u16],
+) -> usize
+    requires { ⌜ isSide (t .side) ≡ true ⌝ }
+    requires { ⌜ (scale ≡ scaleOf t) × (0 < scale) × (at < groups (t .side)) ⌝ }
+    requires { ⌜ n ≡ groups (t .side) ⌝ }
+    requires { ⌜ Sized n (now words) (now marks) (now aims) (now «spare_words») (now «spare_marks») (now «spare_aims») ⌝ }
+    ensures { λ r. ⌜ Sent t at (cellAt (now (words .entry)) (now (marks .entry)) (now (aims .entry)) (now («spare_words» .entry)) (now («spare_marks» .entry)) (now («spare_aims» .entry))) (cellAt (now (words .exit)) (now (marks .exit)) (now (aims .exit)) (now («spare_words» .exit)) (now («spare_marks» .exit)) (now («spare_aims» .exit))) r ⌝ }
+{
+    let parted = part(
+        t,
+        scale,
+        at,
+        read(
+            n,
+            words,
+            marks,
+            aims,
+            spare_words,
+            spare_marks,
+            spare_aims,
+            at,
+        ),
+    );
+    let goer = parted.goer;
+    if goer.mark == 0 {
+        return 0;
+    }
+    let rest = parted.rest;
+    let way = t.way;
+    let to = onward(t.side, way, at);
+    let met = joined(
+        read(
+            n,
+            words,
+            marks,
+            aims,
+            spare_words,
+            spare_marks,
+            spare_aims,
+            to,
+        ),
+        goer,
+    );
+    put(
+        n,
+        at,
+        rest,
+        to,
+        met,
+        words,
+        marks,
+        aims,
+        spare_words,
+        spare_marks,
+        spare_aims,
+    );
+    1
+}
+
+// Every record of a group that goes, goes one cell; how many did. The lanes are the group's own stretch.
+fn move_group(
+    t: Rule,
+    words: &mut [u32],
+    marks: &mut [u8],
+    aims: &mut [u16],
+    spare_words: &mut [u32],
+    spare_marks: &mut [u8],
+    spare_aims: &mut [u16],
+) -> usize
+    requires { ⌜ isSide (t .side) ≡ true ⌝ }
+    requires { ⌜ Sized (groups (t .side)) (now words) (now marks) (now aims) (now «spare_words») (now «spare_marks») (now «spare_aims») ⌝ }
+    ensures { λ r. ⌜ MovedGroup t (cellAt (now (words .entry)) (now (marks .entry)) (now (aims .entry)) (now («spare_words» .entry)) (now («spare_marks» .entry)) (now («spare_aims» .entry))) (cellAt (now (words .exit)) (now (marks .exit)) (now (aims .exit)) (now («spare_words» .exit)) (now («spare_marks» .exit)) (now («spare_aims» .exit))) r ⌝ }
+{
+    let n = words.len();
+    let way = t.way;
+    let scale = scale(t);
+    let mut moved: usize = 0;
+    let mut k: usize = 0;
+    while k < n {
+        let at = turn(way, n, k);
+        moved += send(
+            t,
+            scale,
+            n,
+            at,
+            words,
+            marks,
+            aims,
+            spare_words,
+            spare_marks,
+            spare_aims,
+        );
+        k += 1;
+    }
+    moved
+}
+
+// The same in the group whose stretch of the lanes starts at base.
+fn move_part(
+    t: Rule,
+    base: usize,
+    words: &mut [u32],
+    marks: &mut [u8],
+    aims: &mut [u16],
+    spare_words: &mut [u32],
+    spare_marks: &mut [u8],
+    spare_aims: &mut [u16],
+) -> usize
+    requires { ⌜ isSide (t .side) ≡ true ⌝ }
+    requires { ⌜ base + groups (t .side) ≤ cells (t .side) ⌝ }
+    requires { ⌜ ((g : ℕ) × (base ≡ g * groups (t .side))) ⌝ }
+    requires { ⌜ Sized (cells (t .side)) (now words) (now marks) (now aims) (now «spare_words») (now «spare_marks») (now «spare_aims») ⌝ }
+    ensures { λ r. ⌜ MovedPart t base (cellAt (now (words .entry)) (now (marks .entry)) (now (aims .entry)) (now («spare_words» .entry)) (now («spare_marks» .entry)) (now («spare_aims» .entry))) (cellAt (now (words .exit)) (now (marks .exit)) (now (aims .exit)) (now («spare_words» .exit)) (now («spare_marks» .exit)) (now («spare_aims» .exit))) r ⌝ }
+{
+    let end = base + t.side * t.side;
+    move_group(
+        t,
+        &mut words[base..end],
+        &mut marks[base..end],
+        &mut aims[base..end],
+        &mut spare_words[base..end],
+        &mut spare_marks[base..end],
+        &mut spare_aims[base..end],
+    )
+}
+
+// One electronic move of a board's six lanes: the same in every group; how many records went. Lanes that are not a board's stay as they are.
+pub fn move_all(
+    t: Rule,
+    words: &mut [u32],
+    marks: &mut [u8],
+    aims: &mut [u16],
+    spare_words: &mut [u32],
+    spare_marks: &mut [u8],
+    spare_aims: &mut [u16],
+) -> usize
+    ensures { λ r. ⌜ MovedLanes (areLanes (t .side) (length (now (words .entry))) (length (now (marks .entry))) (length (now (aims .entry))) (length (now («spare_words» .entry))) (length (now («spare_marks» .entry))) (length (now («spare_aims» .entry)))) t (cellAt (now (words .entry)) (now (marks .entry)) (now (aims .entry)) (now («spare_words» .entry)) (now («spare_marks» .entry)) (now («spare_aims» .entry))) (cellAt (now (words .exit)) (now (marks .exit)) (now (aims .exit)) (now («spare_words» .exit)) (now («spare_marks» .exit)) (now («spare_aims» .exit))) r ⌝ }
+{
+    if !are_lanes(
+        t.side,
+        words.len(),
+        marks.len(),
+        aims.len(),
+        spare_words.len(),
+        spare_marks.len(),
+        spare_aims.len(),
+    ) {
+        return 0;
+    }
+    let groups = t.side * t.side;
+    let mut moved: usize = 0;
+    let mut base: usize = 0;
+    let mut g: usize = 0;
+    while g < groups {
+        moved += move_part(
+            t,
+            base,
+            words,
+            marks,
+            aims,
+            spare_words,
+            spare_marks,
+            spare_aims,
+        );
+        base += groups;
+        g += 1;
+    }
+    moved
+}

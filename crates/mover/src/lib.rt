@@ -1,0 +1,3 @@
+// The mover: the swap of all lanes, and the moves of concentrate's list or of distribute's, made one after the other up to a cut.
+pub mod runs;
+pub mod swaps;

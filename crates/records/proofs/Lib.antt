@@ -1,0 +1,5 @@
+pub mod Aims
+pub mod Judged
+pub mod Marked
+pub mod Performing
+pub mod Verdicting

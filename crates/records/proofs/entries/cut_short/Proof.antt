@@ -1,0 +1,71 @@
+use mathlib.Core.Path.{_≡_, refl, sym, ap, _∙_}
+use native.Mathlib.Omega.{arith}
+use lib.ListN.{length}
+use Rattle.array.specs.Answers.{acceptedBy}
+use Rattle.mover.specs.Runs.{runsOf}
+use Rattle.records.specs.Cuts.{firstRuns}
+use Rattle.records.proofs.Verdicting.{cut-known, fitting-sized}
+use borrow.Author.Needs.{needs}
+use Rattle.records.proofs.entries.cut_short.Statement.{statement}
+use Rattle.records.proofs.entries.cut_short.Tie as tie
+use Rattle.records.proofs.entries.cut_short.Reads as reads
+use Rattle.records.proofs.entries.cut_short.Lts as lts
+use Rattle.records.proofs.entries.judge_cut.Reads as judge-cut-reads
+use Rattle.records.proofs.entries.perform.Reads as perform-reads
+
+judge-cut-requires : tie.Need-judge-cut-requires
+judge-cut-requires c κs = search needs
+
+same-length : tie.Need-same-length
+same-length c = search needs
+
+same-length-2 : tie.Need-same-length-2
+same-length-2 c = search needs
+
+returns : tie.Need-returns
+returns c = record { answer = c .before .before .judge-cut .ensures; accepted = λ h. absurd (c .if1 .taken h); refused = λ h. record { words = refl; marks = refl; aims = refl; words2 = refl; marks2 = refl; aims2 = refl } }
+
+slice-aggregate-perform : tie.Need-slice-aggregate-perform
+slice-aggregate-perform c = search needs
+
+perform-requires : tie.Need-perform-requires
+perform-requires c κs = let k = (cut-known (c .before .before .before .before .before .before .before .before .before .before .before .before .before .before .before .before .before .before .args .back) (c .before .before .before .before .before .before .before .before .before .before .before .before .before .before .before .before .before .before .args .side) (c .before .before .before .before .before .before .before .before .before .before .before .before .before .before .before .before .before .before .args .cut) (length (c .before .before .before .before .before .before .before .before .before .before .before .before .before .before .before .before .before .before .args .words .now)) (length (c .before .before .before .before .before .before .before .before .before .before .before .before .before .before .before .before .before .before .args .marks .now)) (length (c .before .before .before .before .before .before .before .before .before .before .before .before .before .before .before .before .before .before .args .aims .now)) (length (c .before .before .before .before .before .before .before .before .before .before .before .before .before .before .before .before .before .before .args .spare-words .now)) (length (c .before .before .before .before .before .before .before .before .before .before .before .before .before .before .before .before .before .before .args .spare-marks .now)) (length (c .before .before .before .before .before .before .before .before .before .before .before .before .before .before .before .before .before .before .args .spare-aims .now)) (c .before .before .before .before .before .before .before .before .before .before .before .before .before .before .before .before .before .before .args .marks .now) (c .before .before .before .before .before .before .before .before .before .before .before .before .before .before .before .before .before .before .args .aims .now) (acceptedBy (firstRuns (c .before .before .before .before .before .before .before .before .before .before .before .before .before .before .before .before .before .before .args .cut) (runsOf (c .before .before .before .before .before .before .before .before .before .before .before .before .before .before .before .before .before .before .args .back) (c .before .before .before .before .before .before .before .before .before .before .before .before .before .before .before .before .before .before .args .side)))) (c .before .before .before .before .before .before .before .before .before .judge-cut .ensures) (c .before .before .before .before .before .before .before .if1 .left)) in (k .fits .side, (fitting-sized (k .fits), (k .inside, k .good)))
+
+same-length-3 : tie.Need-same-length-3
+same-length-3 c = search needs
+
+same-length-4 : tie.Need-same-length-4
+same-length-4 c = search needs
+
+same-length-5 : tie.Need-same-length-5
+same-length-5 c = search needs
+
+same-length-6 : tie.Need-same-length-6
+same-length-6 c = search needs
+
+same-length-7 : tie.Need-same-length-7
+same-length-7 c = search needs
+
+same-length-8 : tie.Need-same-length-8
+same-length-8 c = search needs
+
+returns-2 : tie.Need-returns-2
+returns-2 c = record { answer = c .before .before .before .before .before .before .before .before .before .before .before .before .before .before .before .before .before .before .before .before .before .before .before .judge-cut .ensures; accepted = λ h. c .before .before .before .before .before .before .before .before .before .before .before .before .before .perform .ensures .stood; refused = λ h. absurd (h (c .before .before .before .before .before .before .before .before .before .before .before .before .before .before .before .before .before .before .before .before .before .if1 .left)) }
+
+pub cut-short-spec : {M : Type 1} → statement M
+cut-short-spec =
+    tie.close
+    (tie.spec
+    judge-cut-requires
+    same-length
+    same-length-2
+    returns
+    slice-aggregate-perform
+    perform-requires
+    same-length-3
+    same-length-4
+    same-length-5
+    same-length-6
+    same-length-7
+    same-length-8
+    returns-2)

@@ -1,0 +1,4 @@
+pub mod Cases
+pub mod Cuts
+pub mod Entries
+pub mod Records

@@ -1,0 +1,335 @@
+// The entries: concentrate and distribute, whole and up to a cut.
+use crate::judging::aims_case;
+use crate::judging::cut_case;
+use crate::judging::first_runs;
+use crate::judging::refusing_lanes;
+use array::answers::Answer;
+use array::answers::accepted;
+use array::answers::refusing;
+use array::logs::accepted_by;
+use array::logs::log_case;
+use array::logs::write_codes;
+use clearing::keep_aims;
+use clearing::keep_words;
+use clearing::zero_aims;
+use clearing::zero_marks;
+use clearing::zero_words;
+use marks::marks_case;
+use mover::runs::run;
+use mover::runs::runs_of;
+ghost use mathlib.Core.Path.{_≡_};
+ghost use mathlib.Core.Bool.{true, false};
+ghost use Prim.Native.Nat.{ℕ, _≤_};
+ghost use lib.ListN.{length};
+ghost use Rattle.array.specs.Answers.{verdict, acceptedBy};
+ghost use Rattle.array.specs.Cells.{isSide, cells};
+ghost use Rattle.mesh.specs.Cells.{Sized, cellAt};
+ghost use Rattle.mover.specs.Runs.{runsOf};
+ghost use Rattle.records.specs.Cases.{totalMoves};
+ghost use Rattle.records.specs.Cuts.{firstRuns};
+ghost use Rattle.records.specs.Entries.{fullCases, cutCases, Good, Performed, FullRun, CutRun};
+
+// The answer of a full run, by the lengths of the lanes and logs and by the marks and aims.
+fn judge_full(
+    back: bool,
+    side: usize,
+    words: usize,
+    marks: &[u8],
+    aims: &[u16],
+    spare_words: usize,
+    spare_marks: usize,
+    spare_aims: usize,
+    codes: usize,
+    moved: usize,
+) -> Answer
+    ensures { λ r. ⌜ r ≡ verdict (fullCases back side words (length (now (marks .entry))) (length (now (aims .entry))) «spare_words» «spare_marks» «spare_aims» codes moved (now (marks .entry)) (now (aims .entry))) (acceptedBy (runsOf back side)) ⌝ }
+{
+    let runs = runs_of(back, side);
+    let good = refusing(marks_case(marks), accepted(0, 0));
+    let logged = refusing(log_case(runs, codes), refusing(log_case(runs, moved), good));
+    let early = refusing_lanes(
+        side,
+        words,
+        marks.len(),
+        aims.len(),
+        spare_words,
+        spare_marks,
+        spare_aims,
+        logged,
+    );
+    if early.number != 0 {
+        return early;
+    }
+    refusing(aims_case(back, side, marks, aims), accepted_by(runs))
+}
+
+// The answer of a run up to a cut.
+fn judge_cut(
+    back: bool,
+    side: usize,
+    cut: usize,
+    words: usize,
+    marks: &[u8],
+    aims: &[u16],
+    spare_words: usize,
+    spare_marks: usize,
+    spare_aims: usize,
+) -> Answer
+    ensures { λ r. ⌜ r ≡ verdict (cutCases back side cut words (length (now (marks .entry))) (length (now (aims .entry))) «spare_words» «spare_marks» «spare_aims» (now (marks .entry)) (now (aims .entry))) (acceptedBy (firstRuns cut (runsOf back side))) ⌝ }
+{
+    let good = refusing(marks_case(marks), accepted(0, 0));
+    let early = refusing_lanes(
+        side,
+        words,
+        marks.len(),
+        aims.len(),
+        spare_words,
+        spare_marks,
+        spare_aims,
+        good,
+    );
+    if early.number != 0 {
+        return early;
+    }
+    let runs = first_runs(runs_of(back, side), cut);
+    refusing(
+        aims_case(back, side, marks, aims),
+        refusing(cut_case(side, cut), accepted_by(runs)),
+    )
+}
+
+// Clears unmarked cells and spare lanes, and makes the first moves of the list, up to the cut.
+fn perform(
+    back: bool,
+    side: usize,
+    cut: usize,
+    words: &mut [u32],
+    marks: &mut [u8],
+    aims: &mut [u16],
+    spare_words: &mut [u32],
+    spare_marks: &mut [u8],
+    spare_aims: &mut [u16],
+    moved: &mut [u16],
+)
+    requires { ⌜ isSide side ≡ true ⌝ }
+    requires { ⌜ Sized (cells side) (now words) (now marks) (now aims) (now «spare_words») (now «spare_marks») (now «spare_aims») ⌝ }
+    requires { ⌜ cut ≤ totalMoves side ⌝ }
+    requires { ⌜ Good back side (now marks) (now aims) ⌝ }
+    ensures { λ _. ⌜ Performed back side cut (now (words .entry)) (now (marks .entry)) (now (aims .entry)) (cellAt (now (words .exit)) (now (marks .exit)) (now (aims .exit)) (now («spare_words» .exit)) (now («spare_marks» .exit)) (now («spare_aims» .exit))) (now (moved .entry)) (now (moved .exit)) ⌝ }
+{
+    keep_words(marks, words);
+    keep_aims(marks, aims);
+    zero_words(spare_words);
+    zero_marks(spare_marks);
+    zero_aims(spare_aims);
+    run(
+        back,
+        side,
+        cut,
+        words,
+        marks,
+        aims,
+        spare_words,
+        spare_marks,
+        spare_aims,
+        moved,
+    );
+}
+
+// A full run of either list.
+fn full(
+    back: bool,
+    side: usize,
+    words: &mut [u32],
+    marks: &mut [u8],
+    aims: &mut [u16],
+    spare_words: &mut [u32],
+    spare_marks: &mut [u8],
+    spare_aims: &mut [u16],
+    codes: &mut [u8],
+    moved: &mut [u16],
+) -> Answer
+    ensures { λ r. ⌜ FullRun back side (now (words .entry)) (now (marks .entry)) (now (aims .entry)) (now («spare_words» .entry)) (now («spare_marks» .entry)) (now («spare_aims» .entry)) (now (words .exit)) (now (marks .exit)) (now (aims .exit)) (now («spare_words» .exit)) (now («spare_marks» .exit)) (now («spare_aims» .exit)) (now (codes .entry)) (now (codes .exit)) (now (moved .entry)) (now (moved .exit)) r ⌝ }
+{
+    let answer = judge_full(
+        back,
+        side,
+        words.len(),
+        marks,
+        aims,
+        spare_words.len(),
+        spare_marks.len(),
+        spare_aims.len(),
+        codes.len(),
+        moved.len(),
+    );
+    if answer.number != 0 {
+        return answer;
+    }
+    write_codes(runs_of(back, side), codes, 0);
+    perform(
+        back,
+        side,
+        7 * (side - 1) + 2,
+        words,
+        marks,
+        aims,
+        spare_words,
+        spare_marks,
+        spare_aims,
+        moved,
+    );
+    answer
+}
+
+// A run of either list up to a cut, with no log.
+fn cut_short(
+    back: bool,
+    side: usize,
+    cut: usize,
+    words: &mut [u32],
+    marks: &mut [u8],
+    aims: &mut [u16],
+    spare_words: &mut [u32],
+    spare_marks: &mut [u8],
+    spare_aims: &mut [u16],
+) -> Answer
+    ensures { λ r. ⌜ CutRun back side cut (now (words .entry)) (now (marks .entry)) (now (aims .entry)) (now («spare_words» .entry)) (now («spare_marks» .entry)) (now («spare_aims» .entry)) (now (words .exit)) (now (marks .exit)) (now (aims .exit)) (now («spare_words» .exit)) (now («spare_marks» .exit)) (now («spare_aims» .exit)) r ⌝ }
+{
+    let answer = judge_cut(
+        back,
+        side,
+        cut,
+        words.len(),
+        marks,
+        aims,
+        spare_words.len(),
+        spare_marks.len(),
+        spare_aims.len(),
+    );
+    if answer.number != 0 {
+        return answer;
+    }
+    let mut unlogged = [0u16; 1];
+    perform(
+        back,
+        side,
+        cut,
+        words,
+        marks,
+        aims,
+        spare_words,
+        spare_marks,
+        spare_aims,
+        &mut unlogged,
+    );
+    answer
+}
+
+// Every record goes to the cell of its rank.
+pub fn concentrate(
+    side: usize,
+    words: &mut [u32],
+    marks: &mut [u8],
+    aims: &mut [u16],
+    spare_words: &mut [u32],
+    spare_marks: &mut [u8],
+    spare_aims: &mut [u16],
+    codes: &mut [u8],
+    moved: &mut [u16],
+) -> Answer
+    ensures { λ r. ⌜ FullRun false side (now (words .entry)) (now (marks .entry)) (now (aims .entry)) (now («spare_words» .entry)) (now («spare_marks» .entry)) (now («spare_aims» .entry)) (now (words .exit)) (now (marks .exit)) (now (aims .exit)) (now («spare_words» .exit)) (now («spare_marks» .exit)) (now («spare_aims» .exit)) (now (codes .entry)) (now (codes .exit)) (now (moved .entry)) (now (moved .exit)) r ⌝ }
+{
+    full(
+        false,
+        side,
+        words,
+        marks,
+        aims,
+        spare_words,
+        spare_marks,
+        spare_aims,
+        codes,
+        moved,
+    )
+}
+
+// The first moves of it, up to a cut.
+pub fn concentrate_cut(
+    side: usize,
+    cut: usize,
+    words: &mut [u32],
+    marks: &mut [u8],
+    aims: &mut [u16],
+    spare_words: &mut [u32],
+    spare_marks: &mut [u8],
+    spare_aims: &mut [u16],
+) -> Answer
+    ensures { λ r. ⌜ CutRun false side cut (now (words .entry)) (now (marks .entry)) (now (aims .entry)) (now («spare_words» .entry)) (now («spare_marks» .entry)) (now («spare_aims» .entry)) (now (words .exit)) (now (marks .exit)) (now (aims .exit)) (now («spare_words» .exit)) (now («spare_marks» .exit)) (now («spare_aims» .exit)) r ⌝ }
+{
+    cut_short(
+        false,
+        side,
+        cut,
+        words,
+        marks,
+        aims,
+        spare_words,
+        spare_marks,
+        spare_aims,
+    )
+}
+
+// Every record goes to the cell that its aim names.
+pub fn distribute(
+    side: usize,
+    words: &mut [u32],
+    marks: &mut [u8],
+    aims: &mut [u16],
+    spare_words: &mut [u32],
+    spare_marks: &mut [u8],
+    spare_aims: &mut [u16],
+    codes: &mut [u8],
+    moved: &mut [u16],
+) -> Answer
+    ensures { λ r. ⌜ FullRun true side (now (words .entry)) (now (marks .entry)) (now (aims .entry)) (now («spare_words» .entry)) (now («spare_marks» .entry)) (now («spare_aims» .entry)) (now (words .exit)) (now (marks .exit)) (now (aims .exit)) (now («spare_words» .exit)) (now («spare_marks» .exit)) (now («spare_aims» .exit)) (now (codes .entry)) (now (codes .exit)) (now (moved .entry)) (now (moved .exit)) r ⌝ }
+{
+    full(
+        true,
+        side,
+        words,
+        marks,
+        aims,
+        spare_words,
+        spare_marks,
+        spare_aims,
+        codes,
+        moved,
+    )
+}
+
+// The first moves of it, up to a cut.
+pub fn distribute_cut(
+    side: usize,
+    cut: usize,
+    words: &mut [u32],
+    marks: &mut [u8],
+    aims: &mut [u16],
+    spare_words: &mut [u32],
+    spare_marks: &mut [u8],
+    spare_aims: &mut [u16],
+) -> Answer
+    ensures { λ r. ⌜ CutRun true side cut (now (words .entry)) (now (marks .entry)) (now (aims .entry)) (now («spare_words» .entry)) (now («spare_marks» .entry)) (now («spare_aims» .entry)) (now (words .exit)) (now (marks .exit)) (now (aims .exit)) (now («spare_words» .exit)) (now («spare_marks» .exit)) (now («spare_aims» .exit)) r ⌝ }
+{
+    cut_short(
+        true,
+        side,
+        cut,
+        words,
+        marks,
+        aims,
+        spare_words,
+        spare_marks,
+        spare_aims,
+    )
+}

@@ -1,0 +1,3 @@
+// Concentrate and distribute, whole and up to a cut.
+pub mod entries;
+pub mod judging;
