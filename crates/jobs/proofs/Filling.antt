@@ -30,10 +30,10 @@ pub no-line : (job : Job) (s m : ℕ) → job ≡ Ready s m → (out : List ℕ)
 unfolding refusalOf
 no-line job s m e out = rw e (record { count = refl; is = refl })
 
-pub printed : (s marked : ℕ) (codes moved words : List ℕ) → s ≤ 8 → marked ≤ 4096 → {a : List ℕ} {r : ℕ} {b : List ℕ} → length a ≡ 196608 → length codes ≡ 51 → length words ≡ 4096
+pub printed : (s marked : ℕ) (codes moved words : List ℕ) → s ≤ 8 → marked ≤ 4096 → {a : List ℕ} {r : ℕ} {b : List ℕ} → length a ≡ 196608 → length codes ≡ 51 → marked ≤ length words
     → Written a 0 (printedOf s marked codes moved words) r b → Filled a (printedOf s marked codes moved words) r b
 printed s marked codes moved words h k l c m w =
     let n : movesOf s ≤ 51 = omega arith in
     let p : length (take (movesOf s) codes) ≤ 51 = rw (length-take-le (movesOf s) codes (omega arith)) n in
-    let q : length (take marked words) ≤ 4096 = rw (length-take-le marked words (omega arith)) k in
+    let q : length (take marked words) ≤ 4096 = rw (length-take-le marked words m) k in
     filled (omega (arith, answer-fits (take (movesOf s) codes) (take (movesOf s) moved) (take marked words) p q)) w

@@ -4,7 +4,7 @@ use mathlib.Core.Path.{_≡_, refl, sym, ap, _∙_}
 use mathlib.Core.Bool.{Bool, true, false, cond}
 use mathlib.Core.List.{List, [], _∷_, map}
 use native.Mathlib.Omega.{arith}
-use lib.ListN.{length, getD, replicate, length-replicate}
+use lib.ListN.{length, getD, set, replicate, length-replicate, length-set}
 use lib.Dec.{ltb, eqb}
 use borrow.Author.Tests.{eqb-true, eqb-false, eq-eqb, ne-eqb, lt-ltb, le-ltb, ltb-true, ltb-false}
 use Rattle.laws.specs.Sums.{sum}
@@ -92,8 +92,28 @@ zeros zero k = refl
 zeros (suc n) zero = refl
 zeros (suc n) (suc k) = zeros n k
 
+-- a mark is 0 or 1
+mark-small : (es : List Marked) (k : ℕ) → markAt es k < 2
+unfolding valueAt
+mark-small [] k = omega arith
+mark-small (e ∷ es) k = go (eqb k (e .index)) (mark-small es k)
+  where
+    go : (t : Bool) → markAt es k < 2 → cond t 1 (markAt es k) < 2
+    go true h = omega arith
+    go false h = h
+
+ones : (es : List Marked) (r : ℕ) → r < length es → _≡_ {A = ℕ} (getD (map (λ e. 1) es) r 0) 1
+ones [] r h = absurd (omega arith)
+ones (e ∷ es) zero h = refl
+ones (e ∷ es) (suc r) h = ones es r (omega arith)
+
+pub laid-long : (value : Marked → ℕ) (es : List Marked) (lane : List ℕ) → length (laid value es lane) ≡ length lane
+unfolding laid
+laid-long value [] lane = refl
+laid-long value (e ∷ es) lane = laid-long value es (set lane (e .index) (value e)) ∙ length-set lane (e .index) (value e)
+
 -- the lanes of a job that is accepted
-abbrev laneIn : (Marked → ℕ) → List Marked → List ℕ
+abbrev pub laneIn : (Marked → ℕ) → List Marked → List ℕ
 laneIn value es = laid value es (replicate 4096 0)
 
 module _ (es : List Marked) (end : ℕ) (room : end ≤ 4096) (d : Rising 0 end es) where
@@ -110,3 +130,9 @@ module _ (es : List Marked) (end : ℕ) (room : end ≤ 4096) (d : Rising 0 end 
   -- it is marked, and holds its word
   pub home-value : (value : Marked → ℕ) (r : ℕ) → r < length es → getD (laneIn value es) (homeOf es r) 0 ≡ getD (map value es) r 0
   home-value value r h = lane-at value (homeOf es r) ∙ value-at end value es 0 r 0 h d
+
+  pub home-marked : (r : ℕ) → r < length es → getD (laneIn (λ e. 1) es) (homeOf es r) 0 ≡ 1
+  home-marked r h = home-value (λ e. 1) r h ∙ ones es r h
+
+  pub marks-small : (k : ℕ) → getD (laneIn (λ e. 1) es) k 0 < 2
+  marks-small k = rw (lane-at (λ e. 1) k) (mark-small es k)
