@@ -17,10 +17,11 @@ filled : {out text : List ℕ} {r : ℕ} {out′ : List ℕ} → length text ≤
 filled h w = record { count = whole h w .0; is = whole h w .1 }
 
 -- the bytes to write are a part of the buffer
+pub filled-fits : {out text : List ℕ} {r : ℕ} {out′ : List ℕ} → Filled out text r out′ → r ≤ length out′
+filled-fits {out} {text} {r} {out′} f = rw (f .is, length-append, f .count) (omega arith)
+
 pub filled-part : {out text : List ℕ} {r : ℕ} {out′ : List ℕ} → Filled out text r out′ → r ≡ length (take r out′)
-filled-part {out} {text} {r} {out′} f =
-    let l : r ≤ length out′ = rw (f .is, length-append, f .count) (omega arith) in
-    sym (length-take-le r out′ l)
+filled-part {out} {text} {r} {out′} f = sym (length-take-le r out′ (filled-fits f))
 
 pub refused-line : (job : Job) (n p : ℕ) → job ≡ Refused n p → {a : List ℕ} {r : ℕ} {b : List ℕ} → length a ≡ 196608 → Written a 0 (refusedText n p) r b → Filled a (refusalOf job) r b
 unfolding refusalOf
