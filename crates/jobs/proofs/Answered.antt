@@ -1,14 +1,14 @@
 -- The lanes of a job that was read, and the answer to them: it is the output of the verdict.
-use Prim.Native.Nat.{ℕ, _+_, _-_, _*_, _≤_, _<_}
-use mathlib.Core.Path.{_≡_, refl, sym, ap, _∙_}
-use mathlib.Core.Bool.{Bool, true, false}
+use Prim.Native.Nat.{ℕ, _-_, _*_, _≤_, _<_}
+use mathlib.Core.Path.{_≡_, sym, ap, _∙_}
+use mathlib.Core.Bool.{true, false}
 use mathlib.Core.List.{List, []}
 use native.Mathlib.Omega.{arith}
 use lib.ListN.{length, getD, take, replicate, length-replicate, length-map, length-take}
-use lib.Seq.{length-take-le, getD-take, ext-getD}
+use lib.Seq.{length-take-le, getD-take}
 use Rattle.laws.specs.Tables.{entries}
 use Rattle.laws.proofs.Sums.{sum-cong}
-use Rattle.laws.proofs.Tables.{entries-all, entry-at, length-entries}
+use Rattle.laws.proofs.Tables.{entries-all}
 use Rattle.array.specs.Cells.{isSide, cells}
 use Rattle.array.proofs.Board.{side-known}
 use Rattle.marks.specs.Marks.{rankIn}
@@ -17,12 +17,11 @@ use Rattle.records.proofs.Marked.{cell-of}
 use Rattle.jobtext.specs.declared.Job.{Job}
 use Rattle.jobtext.specs.declared.Job.the-variants.{Ready, Refused}
 use Rattle.jobtext.specs.Verdicts.{Marked, Verdict, accepted, refused, verdict}
-use Rattle.jobtext.specs.Lanes.{laid, laneOf, jobOf, JobRead}
+use Rattle.jobtext.specs.Lanes.{laneOf, jobOf, JobRead}
 use mir.Syntax.{w64}
 use mir.Val.{Fits}
 use Rattle.jobtext.proofs.Cells.{square-fits, cells-fit}
 use Rattle.jobtext.proofs.Accepted.{Rising, Known, known, few as few-cells}
-use Rattle.answertext.specs.Answers.{answerText}
 use Rattle.jobs.specs.Outputs.{homeOf, wordsIn, movedCounts as jobCounts, outputOf}
 use Rattle.jobs.specs.Filled.{Filled, movesOf, printedOf, refusalOf}
 use Rattle.jobs.specs.Inside.{Settled, Lanes, lanesText}

@@ -1,7 +1,7 @@
 -- The end of a whole run of concentrate: cell r holds the word of the marked cell of rank r.
-use Prim.Native.Nat.{ℕ, _+_, _-_, _*_, _<_}
-use mathlib.Core.Path.{_≡_, refl, sym, ap, _∙_}
-use mathlib.Core.Bool.{Bool, true, false}
+use Prim.Native.Nat.{ℕ, _-_, _<_}
+use mathlib.Core.Path.{_≡_, refl, ap, _∙_}
+use mathlib.Core.Bool.{false}
 use mathlib.Core.List.{List}
 use native.Mathlib.Omega.{arith}
 use lib.ListN.{length, getD}
@@ -11,12 +11,12 @@ use Rattle.mesh.specs.declared.cells.Rec.{Rec}
 use Rattle.mesh.specs.declared.cells.Cell.{Cell}
 use Rattle.mesh.specs.Cells.{alone, cellAt}
 use Rattle.course.specs.Showing.{Shows}
-use Rattle.course.proofs.Holds.{Holds, hold1, holds-one}
-use Rattle.course.proofs.Content.{Rising, Fits, At, content-holds}
+use Rattle.course.proofs.Holds.{hold1, holds-one}
+use Rattle.course.proofs.Content.{Rising, content-holds}
 use Rattle.course.proofs.Course.{shows-same}
 use Rattle.marks.specs.Marks.{rankIn}
 use Rattle.records.specs.Cases.{totalMoves}
-use Rattle.records.specs.Records.{markedCell, countIn, recordOf}
+use Rattle.records.specs.Records.{markedCell, countIn}
 use Rattle.records.specs.Entries.{Good, Stood}
 use Rattle.records.proofs.Aims.{good-ranked}
 use Rattle.records.proofs.Marked.{fits-alone, start-rises, start-inside, start-rising}

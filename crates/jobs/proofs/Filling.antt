@@ -1,15 +1,15 @@
 -- Texts that fill the program's buffer.
-use Prim.Native.Nat.{ℕ, _+_, _-_, _*_, _≤_}
-use mathlib.Core.Path.{_≡_, refl, sym, ap, _∙_}
-use mathlib.Core.List.{List, _++_}
+use Prim.Native.Nat.{ℕ, _-_, _≤_}
+use mathlib.Core.Path.{_≡_, refl, sym}
+use mathlib.Core.List.{List}
 use native.Mathlib.Omega.{arith}
-use lib.ListN.{length, take, drop, length-append}
+use lib.ListN.{length, take, length-append}
 use lib.Seq.{length-take-le}
 use Rattle.texts.specs.Buffers.{Written}
 use Rattle.texts.proofs.Putting.{whole}
 use Rattle.jobtext.specs.declared.Job.{Job}
 use Rattle.jobtext.specs.declared.Job.the-variants.{Ready, Refused}
-use Rattle.answertext.specs.Answers.{answerText, refusedText}
+use Rattle.answertext.specs.Answers.{refusedText}
 use Rattle.answertext.proofs.Room.{answer-fits, refusal-fits}
 use Rattle.jobs.specs.Filled.{Filled, refusalOf, movesOf, printedOf}
 

@@ -1,13 +1,13 @@
 -- Lanes of a board with good marks: rank accepts them, concentrate accepts what rank leaves, and its logs and words are those of the marked cells.
-use Prim.Native.Nat.{ℕ, zero, suc, _+_, _-_, _*_, _≤_, _<_}
-use mathlib.Core.Path.{_≡_, refl, sym, ap, _∙_}
-use mathlib.Core.Bool.{Bool, true, false, cond, not, _&&_}
+use Prim.Native.Nat.{ℕ, zero, suc, _+_, _-_, _≤_, _<_}
+use mathlib.Core.Path.{_≡_, refl, ap, _∙_}
+use mathlib.Core.Bool.{Bool, true, false, not, _&&_}
 use mathlib.Core.List.{List, [], _∷_}
 use native.Mathlib.Omega.{arith}
-use borrow.Author.Tests.{eq-eqb, eqb-true, lt-ltb, le-ltb}
+use borrow.Author.Tests.{eq-eqb, lt-ltb, le-ltb}
 use lib.ListN.{length, getD, take, length-map}
 use lib.Seq.{sets, sets-eq, take-at, length-sets}
-use lib.Dec.{eqb, ltb}
+use lib.Dec.{eqb}
 use Rattle.laws.specs.Searching.{firstFrom, first}
 use Rattle.laws.proofs.Tables.{entry-at, length-entries}
 use Rattle.array.specs.declared.answers.Answer.{Answer}
@@ -19,7 +19,7 @@ use Rattle.array.specs.Answers.{verdict, sideCase, laneCase, logCase, accepted,
 use Rattle.array.proofs.Board.{side-known}
 use Rattle.array.proofs.Counts.{length-moves, prefix-sum-electronic, prefix-sum-swaps, concentrate-length}
 use Rattle.array.proofs.Verdicts.{accepted-is}
-use Rattle.marks.specs.Marks.{isMark, firstBad, marksCase, rankIn}
+use Rattle.marks.specs.Marks.{firstBad, marksCase, rankIn}
 use Rattle.ranking.specs.Ranks.{aimIn, ranks}
 use Rattle.ranking.specs.Entries.{rankCases, Ranked}
 use Rattle.records.specs.Cases.{badAim, aimsCase}
