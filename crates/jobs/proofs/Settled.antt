@@ -1,0 +1,150 @@
+-- Lanes of a board with good marks: rank accepts them, concentrate accepts what rank leaves, and its logs and words are those of the marked cells.
+use Prim.Native.Nat.{ℕ, zero, suc, _+_, _-_, _≤_, _<_}
+use mathlib.Core.Path.{_≡_, refl, ap, _∙_}
+use mathlib.Core.Bool.{Bool, true, false, not, _&&_}
+use mathlib.Core.List.{List, [], _∷_}
+use native.Mathlib.Omega.{arith}
+use borrow.Author.Tests.{eq-eqb, lt-ltb, le-ltb}
+use lib.ListN.{length, getD, take, length-map}
+use lib.Seq.{sets, sets-eq, take-at, length-sets}
+use lib.Dec.{eqb}
+use Rattle.laws.specs.Searching.{firstFrom, first}
+use Rattle.laws.proofs.Tables.{entry-at, length-entries}
+use Rattle.array.specs.declared.answers.Answer.{Answer}
+use Rattle.array.specs.declared.moves.Run.{Run}
+use Rattle.array.specs.Cells.{isSide, cells}
+use Rattle.array.specs.Moves.{moves, codeOf, electronic, swaps, codes as codesOf}
+use Rattle.array.specs.Lists.{concentrateRuns, prefixSumRuns}
+use Rattle.array.specs.Answers.{verdict, sideCase, laneCase, logCase, accepted, acceptedBy}
+use Rattle.array.proofs.Board.{side-known}
+use Rattle.array.proofs.Counts.{length-moves, prefix-sum-electronic, prefix-sum-swaps, concentrate-length}
+use Rattle.array.proofs.Verdicts.{accepted-is}
+use Rattle.marks.specs.Marks.{firstBad, marksCase, rankIn}
+use Rattle.ranking.specs.Ranks.{aimIn, ranks}
+use Rattle.ranking.specs.Entries.{rankCases, Ranked}
+use Rattle.records.specs.Cases.{badAim, aimsCase}
+use Rattle.records.specs.Records.{movedCounts}
+use Rattle.records.specs.Entries.{fullCases, Good, FullRun}
+use Rattle.jobs.specs.Filled.{movesOf}
+use Rattle.jobs.specs.Inside.{Board, Settled}
+use Rattle.jobs.proofs.Ended.{word-there}
+
+-- a search for what is nowhere
+all-passed : (test : ℕ → Bool) (i n : ℕ) → ((k : ℕ) → i ≤ k → k < i + n → test k ≡ false) → firstFrom test i n ≡ i + n
+all-passed test i zero h = omega arith
+all-passed test i (suc n) h =
+    rw (h i (omega arith) (omega arith))
+    (all-passed test (suc i) n (λ k l u. h k (omega arith) (omega arith)) ∙ omega arith)
+
+marks-passed : (i : ℕ) (ms : List ℕ) → ((k : ℕ) → k < length ms → getD ms k 0 < 2) → firstBad i ms ≡ i + length ms
+marks-passed i [] h = omega arith
+marks-passed i (m ∷ ms) h =
+    rw (lt-ltb m 2 (h 0 (omega arith)))
+    (marks-passed (suc i) ms (λ k l. h (suc k) (omega arith)) ∙ omega arith)
+
+lane-passes : (s n : ℕ) → n ≡ cells s → laneCase s n .applies ≡ false
+lane-passes s n e = rw (eq-eqb n (cells s) e)
+
+log-passes : (rs : List Run) (n : ℕ) → length (moves rs) ≤ n → logCase rs n .applies ≡ false
+log-passes rs n h = le-ltb n (length (moves rs)) h
+
+module _ (s : ℕ) (side : isSide s ≡ true) (marks : List ℕ) (long : length marks ≡ cells s) (good : (k : ℕ) → k < length marks → getD marks k 0 < 2) where
+  side-passes : sideCase s .applies ≡ false
+  side-passes = rw side
+
+  marks-pass : marksCase marks .applies ≡ false
+  marks-pass = le-ltb (firstBad 0 marks) (length marks) (omega (arith, marks-passed 0 marks good))
+
+  -- rank accepts
+  pub rank-accepts : (aims log : ℕ) (a : Answer) → aims ≡ cells s → 51 ≤ log → verdict (rankCases s marks aims log) a ≡ a
+  rank-accepts aims log a e h =
+      accepted-is (rankCases s marks aims log) a
+      (side-passes, (lane-passes s (length marks) long, (lane-passes s aims e, (log-passes (prefixSumRuns s) log (omega (arith, length-moves (prefixSumRuns s), prefix-sum-electronic s, prefix-sum-swaps s, side-known s side .most)), (marks-pass, tt)))))
+
+  -- its aims are good
+  aim-good : (k : ℕ) → k < length marks → badAim false s marks (ranks s marks) k ≡ false
+  aim-good k l = go (eqb (getD marks k 0) 1) refl
+    where
+      there : getD (ranks s marks) k 0 ≡ aimIn marks k
+      there = entry-at (aimIn marks) (cells s) k 0 (omega arith)
+
+      go : (t : Bool) → eqb (getD marks k 0) 1 ≡ t → (eqb (getD marks k 0) 1 && not (eqb (getD (ranks s marks) k 0) (rankIn marks k))) ≡ false
+      go true e = let f : getD (ranks s marks) k 0 ≡ rankIn marks k = there ∙ rw e in rw (e, eq-eqb (getD (ranks s marks) k 0) (rankIn marks k) f)
+      go false e = rw e
+
+  pub ranks-good : Good false s marks (ranks s marks)
+  ranks-good = record { marks-good = good; aims-good = aim-good }
+
+  aims-pass : aimsCase false s marks (ranks s marks) .applies ≡ false
+  aims-pass =
+      le-ltb (first (badAim false s marks (ranks s marks)) (length marks)) (length marks)
+      (omega (arith, all-passed (badAim false s marks (ranks s marks)) 0 (length marks) (λ k l u. aim-good k (omega arith))))
+
+  -- concentrate accepts
+  pub concentrate-accepts : (w a w₂ m₂ a₂ codes moved : ℕ) (b : Answer) → w ≡ cells s → a ≡ cells s → w₂ ≡ cells s → m₂ ≡ cells s → a₂ ≡ cells s → 51 ≤ codes → 51 ≤ moved
+      → verdict (fullCases false s w (length marks) a w₂ m₂ a₂ codes moved marks (ranks s marks)) b ≡ b
+  concentrate-accepts w a w₂ m₂ a₂ codes moved b p q p₂ o₂ q₂ c m =
+      accepted-is (fullCases false s w (length marks) a w₂ m₂ a₂ codes moved marks (ranks s marks)) b (
+        side-passes,
+        (
+          lane-passes s w p,
+          (
+            lane-passes s (length marks) long,
+            (
+              lane-passes s a q,
+              (
+                lane-passes s w₂ p₂,
+                (
+                  lane-passes s m₂ o₂,
+                  (
+                    lane-passes s a₂ q₂,
+                    (
+                      log-passes (concentrateRuns s) codes (omega (arith, concentrate-length s, side-known s side .most)),
+                      (log-passes (concentrateRuns s) moved (omega (arith, concentrate-length s, side-known s side .most)), (marks-pass, (aims-pass, tt))),
+                    ),
+                  ),
+                ),
+              ),
+            ),
+          ),
+        ),
+      )
+
+-- what was written at the start of a log is read there
+front-of : (l vs : List ℕ) (n : ℕ) → length vs ≡ n → n ≤ length l → take n (sets l 0 vs) ≡ vs
+front-of l vs n e h = ap (take n) (sets-eq vs l 0 (omega arith)) ∙ take-at vs _ n e
+
+-- a whole run of concentrate behind rank
+module _ {s : ℕ} {w m a w₂ m₂ a₂ codes moved : List ℕ} (b : Board s w m a w₂ m₂ a₂ codes moved) where
+  long : length m ≡ cells s
+  long = b .sized .marks
+
+  good : Good false s m (ranks s m)
+  good = ranks-good s (b .side) m long (b .marked)
+
+  few : movesOf s ≤ 51
+  few = omega (arith, side-known s (b .side) .most)
+
+  ranked : {r : Answer} {a′ codes′ : List ℕ} → Ranked s m a codes r a′ codes′ → (a′ ≡ ranks s m) × (length codes′ ≡ 51)
+  ranked {r} {a′} {codes′} k =
+      let e = k .answer ∙ rank-accepts s (b .side) m long (b .marked) (length a) (length codes) (accepted (electronic (prefixSumRuns s)) (swaps (prefixSumRuns s))) (b .sized .aims) (omega (arith, b .codes-room)) in
+      let f : codes′ ≡ sets codes 0 (codesOf (prefixSumRuns s)) = k .codes-are ∙ rw e in
+      (k .aims-are ∙ rw e, ap length f ∙ length-sets codes 0 (codesOf (prefixSumRuns s)) ∙ b .codes-room)
+
+  ran : {codes′ : List ℕ} → length codes′ ≡ 51 → {r : Answer} {w′ m′ a′ w₂′ m₂′ a₂′ codes″ moved″ : List ℕ}
+      → FullRun false s w m (ranks s m) w₂ m₂ a₂ w′ m′ a′ w₂′ m₂′ a₂′ codes′ codes″ moved moved″ r → Settled s w m w′ codes″ moved″
+  ran {codes′} c {r} {w′} {m′} {a′} {w₂′} {m₂′} {a₂′} {codes″} {moved″} z =
+      let e = z .answer
+      ∙ concentrate-accepts s (b .side) m long (b .marked) (length w) (length (ranks s m)) (length w₂) (length m₂) (length a₂) (length codes′) (length moved) (acceptedBy (concentrateRuns s))
+      (b .sized .words) (length-entries (aimIn m) 0 (cells s)) (b .sized .words2) (b .sized .marks2) (b .sized .aims2) (omega arith) (omega (arith, b .moved-room)) in
+      let n : r .number ≡ 0 = ap (λ (x : Answer). x .number) e in
+      let p = z .accepted n in
+      record {
+        coded = ap (take (movesOf s)) (z .coded n) ∙ front-of codes′ (codesOf (concentrateRuns s)) (movesOf s) (length-map (moves (concentrateRuns s)) codeOf ∙ concentrate-length s) (omega (arith, few));
+        counted = ap (take (movesOf s)) (p .counted) ∙ front-of moved (movedCounts false s (movesOf s) m []) (movesOf s) (length-entries _ 0 (movesOf s)) (omega (arith, few, b .moved-room));
+        worded = word-there s (side-known s (b .side) .least) w m (ranks s m) long good w′ m′ a′ w₂′ m₂′ a₂′ (p .stood);
+      }
+
+  pub settled : {r₁ : Answer} {a′ codes′ : List ℕ} → Ranked s m a codes r₁ a′ codes′ → {r₂ : Answer} {w′ m′ a″ w₂′ m₂′ a₂′ codes″ moved″ : List ℕ}
+      → FullRun false s w m a′ w₂ m₂ a₂ w′ m′ a″ w₂′ m₂′ a₂′ codes′ codes″ moved moved″ r₂ → Settled s w m w′ codes″ moved″
+  settled k z = ran (ranked k .1) (rw (ranked k .0) at z)

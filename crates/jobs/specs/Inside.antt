@@ -1,0 +1,42 @@
+-- What the program's inner functions ask and leave.
+use Prim.Native.Nat.{ℕ, _≤_, _<_}
+use mathlib.Core.Path.{_≡_}
+use mathlib.Core.Bool.{true, false}
+use mathlib.Core.List.{List, []}
+use lib.ListN.{length, getD, take}
+use Rattle.laws.specs.Tables.{entries}
+use Rattle.array.specs.Cells.{isSide, cells}
+use Rattle.array.specs.Moves.{codes as codesOf}
+use Rattle.array.specs.Lists.{concentrateRuns}
+use Rattle.mesh.specs.Cells.{Sized}
+use Rattle.records.specs.Records.{markedCell, countIn, movedCounts}
+use Rattle.answertext.specs.Answers.{answerText}
+use Rattle.jobs.specs.Filled.{movesOf}
+
+-- six lanes of a board, with marks that are marks, and logs that are long enough for every side
+pub record Board (s : ℕ) (w m a w₂ m₂ a₂ codes moved : List ℕ) : Type 0 where
+  pub side : isSide s ≡ true
+  pub sized : Sized (cells s) w m a w₂ m₂ a₂
+  pub marked : (k : ℕ) → k < length m → getD m k 0 < 2
+  pub codes-room : length codes ≡ 51
+  pub moved-room : length moved ≡ 51
+
+-- lanes that were ranked and concentrated: the logs of concentrate, and the word of the marked cell of rank r in cell r
+pub record Settled (s : ℕ) (w m w′ codes′ moved′ : List ℕ) : Type 0 where
+  pub coded : take (movesOf s) codes′ ≡ codesOf (concentrateRuns s)
+  pub counted : take (movesOf s) moved′ ≡ movedCounts false s (movesOf s) m []
+  pub worded : (r : ℕ) → r < countIn s m → r < cells s → getD w′ r 0 ≡ getD w (markedCell m (cells s) r) 0
+
+-- a board's words and marks, with so many marked cells
+pub record Lanes (s marked : ℕ) (w m : List ℕ) : Type 0 where
+  pub side : isSide s ≡ true
+  pub words-long : length w ≡ cells s
+  pub marks-long : length m ≡ cells s
+  pub good : (k : ℕ) → k < length m → getD m k 0 < 2
+  pub all : marked ≡ countIn s m
+  pub few : marked ≤ cells s
+
+-- the answer to them: concentrate's moves and moved counts, and the words in the order of the ranks
+unfoldable pub lanesText : ℕ → ℕ → List ℕ → List ℕ → List ℕ
+lanesText s marked w m =
+    answerText (codesOf (concentrateRuns s)) (movedCounts false s (movesOf s) m []) (entries (λ r. getD w (markedCell m (cells s) r) 0) 0 marked)

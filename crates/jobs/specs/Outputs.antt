@@ -1,0 +1,33 @@
+-- What the program writes for a text: the answer to a job, or the one line of a refusal.
+use Prim.Native.Nat.{ℕ, suc}
+use mathlib.Core.Bool.{cond}
+use mathlib.Core.List.{List, map}
+use lib.ListN.{length, getD}
+use lib.Dec.{eqb}
+use Rattle.laws.specs.Sums.{sum}
+use Rattle.laws.specs.Tables.{entries}
+use Rattle.array.specs.Moves.{codes}
+use Rattle.array.specs.Lists.{concentrateRuns}
+use Rattle.travel.specs.Travel.{concentrateMoves, stands}
+use Rattle.jobtext.specs.Verdicts.{Marked, Verdict, accepted, refused}
+use Rattle.answertext.specs.Answers.{answerText, refusedText}
+
+-- the cell of the record of rank r, and the words in the order of the ranks: the marked cells of a job stand in order
+abbrev pub homeOf : List Marked → ℕ → ℕ
+homeOf es r = getD (map (λ e. e .index) es) r 0
+
+abbrev pub wordsIn : List Marked → List ℕ
+wordsIn es = map (λ e. e .word) es
+
+-- how many records change cell in move k of concentrate
+abbrev pub movedIn : ℕ → List Marked → ℕ → ℕ
+movedIn s es k = sum (length es) (λ r. cond (eqb (stands s k r (homeOf es r)) (stands s (suc k) r (homeOf es r))) 0 1)
+
+-- the moved counts of all its moves
+abbrev pub movedCounts : ℕ → List Marked → List ℕ
+movedCounts s es = entries (movedIn s es) 0 (length (concentrateMoves s))
+
+-- the output of a verdict: of a job the moves of concentrate, and its records in their order
+unfoldable pub outputOf : Verdict → List ℕ
+outputOf (accepted s es) = answerText (codes (concentrateRuns s)) (movedCounts s es) (wordsIn es)
+outputOf (refused n p) = refusedText n p

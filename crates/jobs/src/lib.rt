@@ -1,0 +1,136 @@
+// All that the job program does with its input, on lent slices.
+use answertext::answer;
+use answertext::refusal;
+use jobtext::Job;
+use jobtext::read;
+use ranking::rank;
+use records::entries::concentrate;
+ghost use mathlib.Core.Path.{_≡_};
+ghost use mathlib.Core.Bool.{true};
+ghost use Prim.Native.Nat.{ℕ, _<_, _≤_};
+ghost use lib.ListN.{length, getD};
+ghost use Rattle.array.specs.Cells.{isSide, cells};
+ghost use Rattle.jobtext.specs.Verdicts.{verdict};
+ghost use Rattle.jobs.specs.Outputs.{outputOf};
+ghost use Rattle.jobs.specs.Filled.{Filled, refusalOf, printedOf};
+ghost use Rattle.jobs.specs.Inside.{Board, Settled, Lanes, lanesText};
+
+// The line of a refused job: nothing where the job is one.
+pub fn refuse(out: &mut [u8; 196608], job: Job) -> usize
+    ensures { λ r. ⌜ Filled (now (out .entry)) (refusalOf job) r (now (out .exit)) ⌝ }
+{
+    match job {
+        Job::Refused(number, place) => refusal(out, number, place),
+        Job::Ready { side: _, marked: _ } => 0,
+    }
+}
+
+// The answer to a job, of what concentrate left in the logs and in the words.
+fn print(
+    out: &mut [u8; 196608],
+    side: usize,
+    marked: usize,
+    codes: &[u8],
+    moved: &[u16],
+    words: &[u32],
+) -> usize
+    requires { ⌜ (1 ≤ side) × (side ≤ 8) ⌝ }
+    requires { ⌜ marked ≤ 4096 ⌝ }
+    requires { ⌜ (length (now codes) ≡ 51) × (length (now moved) ≡ 51) × (marked ≤ length (now words)) ⌝ }
+    ensures { λ r. ⌜ Filled (now (out .entry)) (printedOf side marked (now (codes .entry)) (now (moved .entry)) (now (words .entry))) r (now (out .exit)) ⌝ }
+{
+    let moves = 7 * (side - 1) + 2;
+    answer(out, &codes[..moves], &moved[..moves], &words[..marked])
+}
+
+// Every marked cell's record goes to the cell of its rank.
+fn settle(
+    side: usize,
+    words: &mut [u32],
+    marks: &mut [u8],
+    aims: &mut [u16],
+    spare_words: &mut [u32],
+    spare_marks: &mut [u8],
+    spare_aims: &mut [u16],
+    codes: &mut [u8],
+    moved: &mut [u16],
+)
+    requires { ⌜ Board side (now words) (now marks) (now aims) (now «spare_words») (now «spare_marks») (now «spare_aims») (now codes) (now moved) ⌝ }
+    ensures { λ _. ⌜ Settled side (now (words .entry)) (now (marks .entry)) (now (words .exit)) (now (codes .exit)) (now (moved .exit)) ⌝ }
+{
+    rank(side, marks, aims, codes);
+    concentrate(
+        side,
+        words,
+        marks,
+        aims,
+        spare_words,
+        spare_marks,
+        spare_aims,
+        codes,
+        moved,
+    );
+}
+
+// The same with aims and spare lanes of its own.
+fn settle_lanes(
+    side: usize,
+    words: &mut [u32],
+    marks: &mut [u8],
+    codes: &mut [u8],
+    moved: &mut [u16],
+)
+    requires { ⌜ isSide side ≡ true ⌝ }
+    requires { ⌜ (length (now words) ≡ cells side) × (length (now marks) ≡ cells side) ⌝ }
+    requires { ⌜ ((k : ℕ) → k < length (now marks) → getD (now marks) k 0 < 2) ⌝ }
+    requires { ⌜ (length (now codes) ≡ 51) × (length (now moved) ≡ 51) ⌝ }
+    ensures { λ _. ⌜ Settled side (now (words .entry)) (now (marks .entry)) (now (words .exit)) (now (codes .exit)) (now (moved .exit)) ⌝ }
+{
+    let n = words.len();
+    let mut aims = [0u16; 4096];
+    let mut spare_words = [0u32; 4096];
+    let mut spare_marks = [0u8; 4096];
+    let mut spare_aims = [0u16; 4096];
+    settle(
+        side,
+        words,
+        marks,
+        &mut aims[..n],
+        &mut spare_words[..n],
+        &mut spare_marks[..n],
+        &mut spare_aims[..n],
+        codes,
+        moved,
+    );
+}
+
+// Ranks and concentrates the lanes of a job, and puts its answer.
+fn solve(
+    out: &mut [u8; 196608],
+    side: usize,
+    marked: usize,
+    words: &mut [u32],
+    marks: &mut [u8],
+) -> usize
+    requires { ⌜ Lanes side marked (now words) (now marks) ⌝ }
+    ensures { λ r. ⌜ Filled (now (out .entry)) (lanesText side marked (now (words .entry)) (now (marks .entry))) r (now (out .exit)) ⌝ }
+{
+    let mut codes = [0u8; 51];
+    let mut moved = [0u16; 51];
+    settle_lanes(side, words, marks, &mut codes, &mut moved);
+    print(out, side, marked, &codes, &moved, words)
+}
+
+// All that the program does with its input.
+pub fn run(text: &[u8], out: &mut [u8; 196608]) -> usize
+    ensures { λ r. ⌜ Filled (now (out .entry)) (outputOf (verdict (now (text .entry)))) r (now (out .exit)) ⌝ }
+{
+    let mut words = [0u32; 4096];
+    let mut marks = [0u8; 4096];
+    let job = read(text, &mut words, &mut marks);
+    let Job::Ready { side, marked } = job else {
+        return refuse(out, job);
+    };
+    let cells = side * side * (side * side);
+    solve(out, side, marked, &mut words[..cells], &mut marks[..cells])
+}

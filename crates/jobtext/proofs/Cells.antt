@@ -1,0 +1,169 @@
+-- The lines after the first, one at a time: what `read_cells` keeps from turn to turn. Assumes nothing.
+use mathlib.Core.Path.{_≡_, refl, sym, ap, _∙_}
+use mathlib.Core.List.{List, []}
+use Prim.Native.Nat.{ℕ, suc, _+_, _-_, _*_, _≤_, _<_}
+use native.Mathlib.Omega.{arith}
+use native.Mathlib.Numerals.{add-one}
+use lib.ListN.{length, take, drop, set, length-drop, drop-of-length-le}
+use lib.Seq.{drop-drop}
+use mir.Syntax.{w64}
+use mir.Val.{Fits}
+use Rattle.laws.proofs.Numbers.{square-grows, fourth-grows}
+use Rattle.texts.specs.Lines.{before, linesOf}
+use Rattle.texts.specs.Bytes.{lf}
+use Rattle.texts.proofs.Ended.{lines-ended, lines-unended}
+use Rattle.jobtext.specs.Verdicts.{entryOf, Marked, Verdict, accepted, refused, also, cellsFrom}
+use Rattle.array.specs.Cells.{cells}
+use Rattle.jobtext.specs.Lanes.{jobOf, laid, Laid, CellsRead}
+use Rattle.jobtext.specs.declared.Entry.{Entry}
+use Rattle.jobtext.specs.declared.Entry.the-variants.{Cell, Malformed}
+use Rattle.jobtext.specs.declared.Job.{Job}
+use Rattle.jobtext.specs.declared.Job.the-variants.{Ready, Refused}
+use Rattle.texts.proofs.Reading.{rest}
+use Rattle.jobtext.proofs.Entries.{entry-in-order}
+
+pub square : (s : ℕ) → s ≤ 8 → s * s ≤ 64
+square s h = square-grows h
+
+pub cells-few : (s : ℕ) → s ≤ 8 → cells s ≤ 4096
+cells-few s h = fourth-grows h
+
+pub square-fits : (s : ℕ) → s ≤ 8 → Fits w64 (s * s)
+square-fits s h = record { fits = omega (arith, square s h) }
+
+pub cells-fit : (s : ℕ) → s ≤ 8 → Fits w64 (s * s * (s * s))
+cells-fit s h = record { fits = omega (arith, cells-few s h) }
+
+-- the verdict on a text that starts with line k, by its first line
+module _ (s next k : ℕ) (t : List ℕ) where
+  by-unended : before lf t ≡ length t → 0 < length t → cellsFrom s next k (linesOf t) ≡ refused 8 k
+  unfolding cellsFrom
+  by-unended e h = rw (lines-unended t e h)
+
+  module _ (h : before lf t < length t) where
+    by-malformed : entryOf next (cells s) (take (before lf t) t) ≡ Malformed → cellsFrom s next k (linesOf t) ≡ refused 8 k
+    unfolding cellsFrom
+    by-malformed e = rw (lines-ended t h, e, cellsFrom)
+
+    by-cell : (i w : ℕ) → entryOf next (cells s) (take (before lf t) t) ≡ Cell i w → cellsFrom s next k (linesOf t) ≡ also i w (cellsFrom s (suc i) (suc k) (linesOf (drop (suc (before lf t)) t)))
+    unfolding cellsFrom
+    by-cell i w e = rw (lines-ended t h, e, cellsFrom)
+
+-- a verdict on the rest of a job of which m cells were read
+abbrev jobWith : ℕ → Verdict → Job
+jobWith m (accepted s es) = Ready s (m + length es)
+jobWith m (refused n p) = Refused n p
+
+job-also : (m i w : ℕ) (v : Verdict) → jobWith m (also i w v) ≡ jobWith (m + 1) v
+unfolding also
+job-also m i w (accepted s es) = ap (Ready s) (omega arith)
+job-also m i w (refused n p) = refl
+
+laid-also : (value : Marked → ℕ) (i w : ℕ) (v : Verdict) (lane exit : List ℕ) → Laid value v (set lane i (value (record { index = i; word = w }))) exit → Laid value (also i w v) lane exit
+unfolding also laid
+laid-also value i w (accepted s es) lane exit h = h
+laid-also value i w (refused n p) lane exit h = tt
+
+abbrev whole : ℕ → List ℕ → Verdict
+whole side text = cellsFrom side 0 2 (linesOf text)
+
+abbrev left : ℕ → List ℕ → ℕ → ℕ → ℕ → Verdict
+left side text next line at = cellsFrom side next line (linesOf (drop at text))
+
+-- the state of `read_cells` before the line at `at`: what is left to read gives the whole answer
+pub record Cells (text : List ℕ) (side : ℕ) (words₀ marks₀ words marks : List ℕ) (at line next marked : ℕ) : Type 0 where
+  pub within : at ≤ length text
+  pub room : cells side ≤ 4096
+  pub low : next ≤ 4096
+  pub few : marked ≤ next
+  pub counted : line ≤ at + 2
+  pub job : jobWith marked (left side text next line at) ≡ jobOf (whole side text)
+  pub words-laid : (exit : List ℕ) → Laid (λ e. e .word) (left side text next line at) words exit → Laid (λ e. e .word) (whole side text) words₀ exit
+  pub marks-laid : (exit : List ℕ) → Laid (λ e. 1) (left side text next line at) marks exit → Laid (λ e. 1) (whole side text) marks₀ exit
+
+-- what `read_cells` ensures
+abbrev Done : List ℕ → ℕ → List ℕ → List ℕ → List ℕ → List ℕ → Job → Type 0
+Done text side words₀ marks₀ words marks r = CellsRead (whole side text) words₀ words marks₀ marks r
+
+pub cells-begin : (text : List ℕ) (side : ℕ) (words marks : List ℕ) → side ≤ 8 → Cells text side words marks words marks 0 2 0 0
+unfolding jobOf
+cells-begin text side words marks h = record {
+  within = omega arith;
+  room = cells-few side h;
+  low = omega arith;
+  few = omega arith;
+  counted = omega arith;
+  job = same-job (whole side text);
+  words-laid = λ exit h. h;
+  marks-laid = λ exit h. h;
+}
+  where
+    same-job : (v : Verdict) → jobWith 0 v ≡ jobOf v
+    same-job (accepted s es) = ap (Ready s) (omega arith)
+    same-job (refused n p) = refl
+
+module _ {text : List ℕ} {side : ℕ} {words₀ marks₀ words marks : List ℕ} {at line next marked : ℕ}
+    (k : Cells text side words₀ marks₀ words marks at line next marked) where
+  pub cells-end : length text ≤ at → Done text side words₀ marks₀ words marks (Ready side marked)
+  unfolding cellsFrom linesOf laid
+  cells-end h =
+      let n : drop at text ≡ [] = drop-of-length-le text h in
+      record {
+        job = ap (Ready side) (omega arith) ∙ rw n at (k .job);
+        words-laid = k .words-laid words (rw n refl);
+        marks-laid = k .marks-laid marks (rw n refl);
+      }
+
+  refuse : left side text next line at ≡ refused 8 line → Done text side words₀ marks₀ words marks (Refused 8 line)
+  refuse e = record { job = rw e at (k .job); words-laid = k .words-laid words (rw e tt); marks-laid = k .marks-laid marks (rw e tt) }
+
+  module _ (h : at < length text) (end : ℕ) (e : end ≡ before lf (take (length text - at) (drop at text))) where
+    at-end : end ≡ before lf (drop at text)
+    at-end = e ∙ rw rest
+
+    long : length (take (length text - at) (drop at text)) ≡ length (drop at text)
+    long = rw rest
+
+    pub cells-unended : end ≡ length (take (length text - at) (drop at text)) → Done text side words₀ marks₀ words marks (Refused 8 line)
+    cells-unended u = refuse (by-unended side next line (drop at text) (omega (arith, at-end, long)) (rw length-drop (omega arith)))
+
+    module _ (b : end ≤ length (take (length text - at) (drop at text))) (u : end ≡ length (take (length text - at) (drop at text)) → ⊥)
+        (r : Entry) (r-read : r ≡ entryOf next (cells side) (take end (take (length text - at) (drop at text)))) where
+      first : r ≡ entryOf next (cells side) (take (before lf (drop at text)) (drop at text))
+      first = r-read ∙ rw (at-end, rest)
+
+      has : before lf (drop at text) < length (drop at text)
+      has = omega (arith, at-end, long)
+
+      pub cells-malformed : r ≡ Malformed → Done text side words₀ marks₀ words marks (Refused 8 line)
+      cells-malformed m = refuse (by-malformed side next line (drop at text) has (sym first ∙ m))
+
+      module _ (i w : ℕ) (c : r ≡ Cell i w) where
+        pub cell-in-order : (next ≤ i) × (i < cells side)
+        cell-in-order = entry-in-order next (cells side) (take end (take (length text - at) (drop at text))) i w (sym r-read ∙ c)
+
+        pub cells-next : Cells text side words₀ marks₀ (set words i w) (set marks i 1) (at + (end + 1)) (line + 1) (i + 1) (marked + 1)
+        cells-next = record {
+          within = omega (arith, at-end, long, length-drop at text, has);
+          room = k .room;
+          low = omega (arith, cell-in-order);
+          few = omega (arith, cell-in-order);
+          counted = omega arith;
+          job = sym (job-also marked i w _) ∙ rw step at (k .job);
+          words-laid = λ exit p. k .words-laid exit (rw step (laid-also (λ e. e .word) i w _ words exit p));
+          marks-laid = λ exit p. k .marks-laid exit (rw step (laid-also (λ e. 1) i w _ marks exit p));
+        }
+          where
+            step : left side text next line at ≡ also i w (left side text (i + 1) (line + 1) (at + (end + 1)))
+            step = by-cell side next line (drop at text) has i w (sym first ∙ c) ∙ rw (← at-end) (simp (drop-drop, add-one))
+
+-- the index of an entry is one of the 4,096
+module _ (next s : ℕ) (line : List ℕ) (r : Entry) (r-read : r ≡ entryOf next (cells s) line) (i w : ℕ) (c : r ≡ Cell i w) (room : cells s ≤ 4096) where
+  pub cell-inside : i < 4096
+  cell-inside = omega (arith, entry-in-order next (cells s) line i w (sym r-read ∙ c))
+
+  pub cell-scaled : Fits w64 (i * 4)
+  cell-scaled = omega (arith, cell-inside)
+
+  pub cell-counted : Fits w64 (i + 1)
+  cell-counted = omega (arith, cell-inside)

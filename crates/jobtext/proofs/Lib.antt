@@ -1,0 +1,5 @@
+pub mod Entries
+pub mod Cells
+pub mod Whole
+pub mod Accepted
+pub mod Examples

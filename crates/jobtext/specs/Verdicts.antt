@@ -1,0 +1,75 @@
+-- What a job text is: every sequence of bytes is a job, or is refused with one number and one place.
+use Prim.Native.Nat.{ℕ, suc}
+use mathlib.Core.List.{List, [], _∷_}
+use mathlib.Core.Bool.{Bool, cond, _&&_}
+use lib.ListN.{length}
+use lib.Dec.{leb, ltb}
+use Rattle.texts.specs.Bytes.{bytes, same}
+use Rattle.array.specs.Cells.{isSide, cells}
+use Rattle.texts.specs.Numbers.{numberOf}
+use Rattle.texts.specs.Lines.{firstField, secondField, Line, ended, unended, linesOf}
+use Rattle.texts.specs.declared.read.Number.{Number}
+use Rattle.texts.specs.declared.read.Number.the-variants.{Of, Not}
+use Rattle.jobtext.specs.declared.Entry.{Entry}
+use Rattle.jobtext.specs.declared.Entry.the-variants.{Cell, Malformed}
+
+abbrev pub sideIf : Bool → Number → Number
+sideIf named n = cond named n Not
+
+-- the side that the first line gives: `side`, side
+unfoldable pub sideOf : List ℕ → Number
+sideOf line = sideIf (same (firstField line) (bytes "side")) (numberOf (secondField line))
+
+-- an entry is two numbers: index, word
+abbrev pub pair : Number → Number → Entry
+pair (Of i) (Of w) = Cell i w
+pair (Of i) Not = Malformed
+pair Not m = Malformed
+
+abbrev pub inOrder : ℕ → ℕ → Entry → Entry
+inOrder next end (Cell i w) = cond (leb next i && ltb i end) (Cell i w) Malformed
+inOrder next end Malformed = Malformed
+
+-- the entry that a later line gives, where its index is at least next and below end
+unfoldable pub entryOf : ℕ → ℕ → List ℕ → Entry
+entryOf next end line = inOrder next end (pair (numberOf (firstField line)) (numberOf (secondField line)))
+
+-- a marked cell, and its word
+pub record Marked : Type 0 where
+  pub index : ℕ
+  pub word : ℕ
+
+pub data Verdict : Type 0 where
+  -- the side, and the marked cells in order
+  accepted : ℕ → List Marked → Verdict
+  -- the number and the place
+  refused : ℕ → ℕ → Verdict
+
+-- a verdict on the later lines, with one marked cell before them
+unfoldable pub also : ℕ → ℕ → Verdict → Verdict
+also i w (accepted s es) = accepted s (record { index = i; word = w } ∷ es)
+also i w (refused n p) = refused n p
+
+-- the lines from line k on, where the next index is at least next; the first bad one is named
+unfoldable pub cellsFrom : ℕ → ℕ → ℕ → List Line → Verdict
+cellsFrom s next k [] = accepted s []
+cellsFrom s next k (unended ∷ ls) = refused 8 k
+cellsFrom s next k (ended line ∷ ls) =
+    elim (entryOf next (cells s) line) [
+      | Cell i w ↦ also i w (cellsFrom s (suc i) (suc k) ls)
+      | Malformed ↦ refused 8 k
+    ]
+
+-- all the lines: a side outside 1 to 8 is refusal 1, and no later line is judged
+unfoldable pub jobFrom : List Line → Verdict
+jobFrom [] = refused 8 1
+jobFrom (unended ∷ ls) = refused 8 1
+jobFrom (ended line ∷ ls) =
+    elim (sideOf line) [
+      | Of s ↦ cond (isSide s) (cellsFrom s 0 2 ls) (refused 1 0)
+      | Not ↦ refused 8 1
+    ]
+
+-- a text of more than 65,536 bytes is refused before anything in it is judged
+unfoldable pub verdict : List ℕ → Verdict
+verdict text = cond (ltb 65536 (length text)) (refused 8 0) (jobFrom (linesOf text))

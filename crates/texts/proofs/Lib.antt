@@ -1,0 +1,5 @@
+pub mod Reading
+pub mod Ended
+pub mod Putting
+pub mod Digits
+pub mod Meaning

@@ -1,0 +1,22 @@
+use Rattle.texts.proofs.Putting.{no-byte}
+use borrow.Author.Needs.{needs}
+use Rattle.texts.proofs.write.put_byte.Statement.{statement}
+use Rattle.texts.proofs.write.put_byte.Tie as tie
+
+returns : tie.Need-returns
+returns c = search no-byte
+
+slice-write-out : tie.Need-slice-write-out
+slice-write-out c = search needs
+
+add-result : tie.Need-add-result
+add-result c = search needs
+
+same-length : tie.Need-same-length
+same-length c = search needs
+
+returns-2 : tie.Need-returns-2
+returns-2 c = search needs
+
+pub put-byte-spec : {M : Type 1} → statement M
+put-byte-spec = tie.close (tie.spec returns slice-write-out add-result same-length returns-2)

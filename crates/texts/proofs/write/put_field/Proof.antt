@@ -1,0 +1,19 @@
+use Rattle.texts.proofs.Digits.{field-written}
+use borrow.Author.Needs.{needs}
+use Rattle.texts.proofs.write.put_field.Statement.{statement}
+use Rattle.texts.proofs.write.put_field.Tie as tie
+
+put-digits-requires : tie.Need-put-digits-requires
+put-digits-requires c κs = search needs
+
+put-byte-requires : tie.Need-put-byte-requires
+put-byte-requires c κs = search needs
+
+same-length : tie.Need-same-length
+same-length c = search needs
+
+returns : tie.Need-returns
+returns c = search field-written
+
+pub put-field-spec : {M : Type 1} → statement M
+put-field-spec = tie.close (tie.spec put-digits-requires put-byte-requires same-length returns)
