@@ -1,7 +1,7 @@
 -- Distribute is concentrate run backwards, state by state: after k moves it has the same records in the same cells and slots as concentrate of them, started from
 -- the cells that the aims name, has with k moves to go. And concentrate, then distribute with the old cells as aims, gives every marked cell its word back.
 use Prim.Native.Nat.{ℕ, _-_, _<_}
-use mathlib.Core.Path.{_≡_, refl, sym, ap, _∙_}
+use mathlib.Core.Path.{_≡_, sym, ap, _∙_}
 use mathlib.Core.Bool.{true, false}
 use mathlib.Core.Logic.{_⊎_, inl, inr, ⊎-elim}
 use mathlib.Core.List.{List}
@@ -20,7 +20,7 @@ use Rattle.records.specs.Cases.{totalMoves}
 use Rattle.records.specs.Records.{markedCell, countIn, recordOf, cellOf}
 use Rattle.records.specs.Entries.{Good, Stood}
 use Rattle.records.proofs.Aims.{Ranked, Aimed, good-ranked, good-aimed}
-use Rattle.records.proofs.Marked.{start-rises, start-inside, start-rising, first-rising, rank-past, cell-of, Found, found}
+use Rattle.records.proofs.Marked.{start-rises, start-inside, start-rising, first-rising, rank-past, cell-of, found}
 use Rattle.records.proofs.Demand3.{Slot, Front, Spare, slot, holds, end-alone, distribute-alone, distribute-empty}
 
 -- two slots hold the same record, as one list shows it and as the other does, or neither holds anything
@@ -59,9 +59,6 @@ module _ {s : ℕ} (pos : 0 < s) {marks aims marks₂ aims₂ : List ℕ} (long 
       → (j : ℕ) → j < cells s → (f : Slot) → Alike (countIn s marks) (recordOf true s words₂ marks₂ aims₂) (recordOf false s words marks aims) (slot f (T j)) (slot f (U j))
   state-by-state k {T} {U} o o′ j u = alike (λ r p. p .0) (same-holds to from theirs) ours
     where
-      n : ℕ
-      n = totalMoves s - k
-
       theirs : Holds (recordOf true s words₂ marks₂ aims₂) (At (countIn s marks₂) (cellOf true s marks₂ aims₂ k) j) (T j)
       theirs =
           holds (first-rising s words₂ marks₂ aims₂ aimed) (fits s (countIn s marks₂) pos (λ r. getD aims₂ r 0) (aimed .rising) (aimed .below) (totalMoves s - k))
