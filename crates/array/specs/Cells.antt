@@ -42,10 +42,6 @@ partner s i = cell s (place s i) (group s i)
 abbrev pub isCell : ℕ → ℕ → Bool
 isCell s i = isSide s && ltb i (cells s)
 
--- the same for every number: what is no cell of a board stays
-abbrev pub linked : ℕ → ℕ → ℕ
-linked s i = cond (isCell s i) (partner s i) i
-
 -- how many cells lie ahead of cell i one way, up to the edge of its group
 abbrev pub ahead : ℕ → Way → ℕ → ℕ
 ahead s Right i = s - 1 - column s (place s i)

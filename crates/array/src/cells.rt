@@ -1,10 +1,9 @@
-// The cells of a board, and the partner of each.
-use links::link;
+// The cells of a board.
 ghost use mathlib.Core.Path.{_≡_};
 ghost use mathlib.Core.Bool.{_&&_};
 ghost use Prim.Native.Nat.{_<_};
 ghost use lib.Dec.{eqb};
-ghost use Rattle.array.specs.Cells.{isSide, isCell, cells as cellsOf, linked};
+ghost use Rattle.array.specs.Cells.{isSide, isCell, cells as cellsOf};
 
 pub fn is_side(side: usize) -> bool
     ensures { λ r. ⌜ r ≡ isSide side ⌝ }
@@ -31,18 +30,4 @@ pub fn is_cell(side: usize, cell: usize) -> bool
         return cell < groups * groups;
     }
     false
-}
-
-// The cell at the other end of the light; what is no cell of a board stays. Side 8 goes by the board's link list.
-pub fn partner(side: usize, cell: usize) -> usize
-    ensures { λ r. ⌜ r ≡ linked side cell ⌝ }
-{
-    if !is_cell(side, cell) {
-        return cell;
-    }
-    if side == 8 {
-        return link(cell);
-    }
-    let groups = side * side;
-    cell % groups * groups + cell / groups
 }

@@ -5,14 +5,15 @@ use mathlib.Core.Bool.{true, false}
 use mathlib.Core.Logic.{_⊎_}
 use mathlib.Core.List.{List}
 use native.Mathlib.Omega.{arith}
-use borrow.Author.Tests.{eqb-true, lt-ltb}
+use borrow.Author.Tests.{eqb-true}
 use lib.Dec.{eqb}
 use lib.ListN.{length, getD, set}
 use Rattle.laws.proofs.Bools.{both-left, both-right}
 use Rattle.laws.proofs.Trading.{Paired, Traded, traded-start, traded-turn, traded-end}
-use Rattle.array.specs.Cells.{isSide, cells, partner, linked}
+use Rattle.array.specs.Cells.{isSide, cells, partner}
 use Rattle.array.proofs.Board.{Side, side-known, partner-in, partner-twice}
 use Rattle.light.specs.Lane.{isBoard, swappedLane}
+use Rattle.light.proofs.Partners.{first-partner}
 
 pub board-side : (s n : ℕ) → isBoard s n ≡ true → isSide s ≡ true
 board-side s n h = both-left (isSide s) (eqb n (cells s)) h
@@ -32,38 +33,33 @@ not-swapped s l h = rw h
 paired : (s : ℕ) → Side s → Paired (cells s) (partner s)
 paired s h = record { inside = partner-in (h .least); twice = partner-twice (h .least) }
 
--- j turns of n were made
-pub record Turning (s n j : ℕ) (old l : List ℕ) : Type 0 where
+-- j turns of n were made, and p is the partner of cell j
+pub record Turning (s n j p : ℕ) (old l : List ℕ) : Type 0 where
   pub board : isBoard s n ≡ true
   pub long : length old ≡ n
+  pub is : p ≡ partner s j
   pub traded : Traded (cells s) (partner s) j old l
 
-pub turning-start : (s : ℕ) (l : List ℕ) → isBoard s (length l) ≡ true → Turning s (length l) 0 l l
-turning-start s l h = record { board = h; long = refl; traded = traded-start (cells s) (partner s) l (board-cells s (length l) h) }
+pub turning-start : (s : ℕ) (l : List ℕ) → isBoard s (length l) ≡ true → Turning s (length l) 0 0 l l
+turning-start s l h = record { board = h; long = refl; is = first-partner (board-known s (length l) h); traded = traded-start (cells s) (partner s) l (board-cells s (length l) h) }
 
--- the partner of cell j
-pub record Partnered (s n j q : ℕ) : Type 0 where
-  pub is : q ≡ partner s j
-  pub inside : q < n
-
-module _ {s n j : ℕ} {old l : List ℕ} (z : Turning s n j old l) where
+module _ {s n j p : ℕ} {old l : List ℕ} (z : Turning s n j p old l) where
   pub turning-few : n ≤ 4096
   turning-few = board-few s n (z .board)
 
   pub turning-long : length l ≡ n
   turning-long = z .traded .long ∙ sym (board-cells s n (z .board))
 
-  pub turning-partner : (q : ℕ) → j < n → q ≡ linked s j → Partnered s n j q
-  turning-partner q h e =
-      let u : j < cells s = omega (arith, board-cells s n (z .board)) in
-      let f : q ≡ partner s j = e ∙ rw (board-side s n (z .board), lt-ltb j (cells s) u) in
-      record { is = f; inside = omega (arith, board-cells s n (z .board), partner-in (board-known s n (z .board) .least) j u) }
+  pub turning-inside : j < n → j < cells s
+  turning-inside h = omega (arith, board-cells s n (z .board))
 
-  pub turning-turn : (l′ : List ℕ) (q : ℕ) → j < n → q ≡ linked s j
-      → ((j < q) × (l′ ≡ set (set l j (getD l q 0)) q (getD l j 0))) ⊎ ((q ≤ j) × (l′ ≡ l)) → Turning s n (j + 1) old l′
+  pub turning-partner : j < n → p < n
+  turning-partner h = omega (arith, z .is, board-cells s n (z .board), partner-in (board-known s n (z .board) .least) j (turning-inside h))
+
+  pub turning-turn : (l′ : List ℕ) (q : ℕ) → j < n → q ≡ partner s (j + 1)
+      → ((j < p) × (l′ ≡ set (set l j (getD l p 0)) p (getD l j 0))) ⊎ ((p ≤ j) × (l′ ≡ l)) → Turning s n (j + 1) q old l′
   turning-turn l′ q h e w =
-      let u : j < cells s = omega (arith, board-cells s n (z .board)) in
-      record { board = z .board; long = z .long; traded = traded-turn (paired s (board-known s n (z .board))) u old l l′ (z .traded) (turning-partner q h e .is) w }
+      record { board = z .board; long = z .long; is = e; traded = traded-turn (paired s (board-known s n (z .board))) (turning-inside h) old l l′ (z .traded) (z .is) w }
 
   pub turning-end : n ≤ j → l ≡ swappedLane s old
   turning-end h =

@@ -1,1 +1,3 @@
+pub mod Counts
+pub mod Inside
 pub mod Lane

@@ -1,9 +1,16 @@
-// A swap of one lane: every cell and its partner, at the other end of the light, exchange what they hold. One function for each width.
+// A swap of lanes: every cell and its partner, at the other end of the light, exchange what they hold. One function for each width.
+pub mod counts;
+
 use array::cells::is_cells;
 use array::cells::is_side;
-use array::cells::partner;
+use links::links;
 ghost use mathlib.Core.Path.{_≡_};
+ghost use mathlib.Core.Bool.{true};
+ghost use Prim.Native.Nat.{ℕ, _+_, _≤_, _<_};
+ghost use lib.ListN.{length, getD};
+ghost use Rattle.array.specs.Cells.{isSide, cells, partner};
 ghost use Rattle.light.specs.Lane.{isBoard, swappedLane};
+ghost use Rattle.light.specs.Inside.{Listed};
 
 // A lane of n entries is one of a board.
 pub fn is_board(side: usize, n: usize) -> bool
@@ -15,60 +22,129 @@ pub fn is_board(side: usize, n: usize) -> bool
     false
 }
 
+fn wide(x: u16) -> usize
+    ensures { λ r. ⌜ r ≡ x ⌝ }
+{
+    x as usize
+}
+
+// The partner of cell j + 1, from p, that of cell j: by the link list as far as it goes, and else by going on one place, or one group.
+pub(crate) fn next(side: usize, list: &[u16], j: usize, p: usize) -> usize
+    requires { ⌜ isSide side ≡ true ⌝ }
+    requires { ⌜ Listed side (now list) ⌝ }
+    requires { ⌜ (j < cells side) × (p ≡ partner side j) ⌝ }
+    ensures { λ r. ⌜ r ≡ partner side (j + 1) ⌝ }
+{
+    let k = j + 1;
+    if k < list.len() {
+        return wide(list[k]);
+    }
+    let groups = side * side;
+    let on = p + groups;
+    let cells = groups * groups;
+    if on < cells { on } else { on - cells + 1 }
+}
+
 // Each cell trades with its partner, where that comes later.
-pub fn swap_words(side: usize, lane: &mut [u32])
+fn trade_words(side: usize, list: &[u16], lane: &mut [u32])
+    requires { ⌜ isBoard side (length (now lane)) ≡ true ⌝ }
+    requires { ⌜ Listed side (now list) ⌝ }
     ensures { λ _. ⌜ now (lane .exit) ≡ swappedLane side (now (lane .entry)) ⌝ }
 {
     let n = lane.len();
-    if !is_board(side, n) {
-        return;
-    }
+    let mut p: usize = 0;
     let mut j: usize = 0;
     while j < n {
-        let p = partner(side, j);
         if j < p {
             let word = lane[j];
             lane[j] = lane[p];
             lane[p] = word;
         }
+        p = next(side, list, j, p);
         j += 1;
     }
 }
 
-pub fn swap_marks(side: usize, lane: &mut [u8])
+fn trade_marks(side: usize, list: &[u16], lane: &mut [u8])
+    requires { ⌜ isBoard side (length (now lane)) ≡ true ⌝ }
+    requires { ⌜ Listed side (now list) ⌝ }
     ensures { λ _. ⌜ now (lane .exit) ≡ swappedLane side (now (lane .entry)) ⌝ }
 {
     let n = lane.len();
-    if !is_board(side, n) {
-        return;
-    }
+    let mut p: usize = 0;
     let mut j: usize = 0;
     while j < n {
-        let p = partner(side, j);
         if j < p {
             let mark = lane[j];
             lane[j] = lane[p];
             lane[p] = mark;
         }
+        p = next(side, list, j, p);
         j += 1;
     }
 }
 
-pub fn swap_aims(side: usize, lane: &mut [u16])
+fn trade_aims(side: usize, list: &[u16], lane: &mut [u16])
+    requires { ⌜ isBoard side (length (now lane)) ≡ true ⌝ }
+    requires { ⌜ Listed side (now list) ⌝ }
     ensures { λ _. ⌜ now (lane .exit) ≡ swappedLane side (now (lane .entry)) ⌝ }
 {
     let n = lane.len();
-    if !is_board(side, n) {
-        return;
-    }
+    let mut p: usize = 0;
     let mut j: usize = 0;
     while j < n {
-        let p = partner(side, j);
         if j < p {
             let aim = lane[j];
             lane[j] = lane[p];
             lane[p] = aim;
         }
+        p = next(side, list, j, p);
         j += 1;
     }
+}
+
+// A swap; side 8 goes by the board's link list, and what is no lane of a board stays.
+pub fn swap_words(side: usize, lane: &mut [u32])
+    ensures { λ _. ⌜ now (lane .exit) ≡ swappedLane side (now (lane .entry)) ⌝ }
+{
+    if !is_board(side, lane.len()) {
+        return;
+    }
+    if side == 8 {
+        let list = links();
+        trade_words(side, &list[..], lane);
+        return;
+    }
+    let none = [0u16; 1];
+    trade_words(side, &none[..0], lane);
+}
+
+pub fn swap_marks(side: usize, lane: &mut [u8])
+    ensures { λ _. ⌜ now (lane .exit) ≡ swappedLane side (now (lane .entry)) ⌝ }
+{
+    if !is_board(side, lane.len()) {
+        return;
+    }
+    if side == 8 {
+        let list = links();
+        trade_marks(side, &list[..], lane);
+        return;
+    }
+    let none = [0u16; 1];
+    trade_marks(side, &none[..0], lane);
+}
+
+pub fn swap_aims(side: usize, lane: &mut [u16])
+    ensures { λ _. ⌜ now (lane .exit) ≡ swappedLane side (now (lane .entry)) ⌝ }
+{
+    if !is_board(side, lane.len()) {
+        return;
+    }
+    if side == 8 {
+        let list = links();
+        trade_aims(side, &list[..], lane);
+        return;
+    }
+    let none = [0u16; 1];
+    trade_aims(side, &none[..0], lane);
 }

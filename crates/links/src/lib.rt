@@ -1,21 +1,13 @@
 // The link list of the side 8 board, a table of 4,096 entries: where the light from each cell leads.
 ghost use mathlib.Core.Path.{_≡_};
-ghost use Rattle.links.specs.Links.{linkOf};
+ghost use Rattle.laws.specs.Tables.{entries};
+ghost use Rattle.links.specs.Links.{entryOf};
 
-// The cell at the other end of the light from a cell of side 8; any other number is its own.
-pub fn link(cell: usize) -> usize
-    ensures { λ r. ⌜ r ≡ linkOf cell ⌝ }
+// The list as a whole: a swap takes it once, and not entry by entry.
+pub fn links() -> [u16; 4096]
+    ensures { λ r. ⌜ r ≡ entries entryOf 0 4096 ⌝ }
 {
-    if 4096 <= cell {
-        return cell;
-    }
-    wide(LINKS[cell])
-}
-
-fn wide(x: u16) -> usize
-    ensures { λ r. ⌜ r ≡ x ⌝ }
-{
-    x as usize
+    LINKS
 }
 
 const LINKS: [u16; 4096] = [

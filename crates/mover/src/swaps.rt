@@ -1,46 +1,13 @@
 // A swap of six lanes: every cell and its partner, at the other end of the light, exchange what they hold.
-use array::cells::partner;
+use light::counts::leaving;
 use light::swap_aims;
 use light::swap_marks;
 use light::swap_words;
 ghost use mathlib.Core.Path.{_≡_};
 ghost use mathlib.Core.Bool.{true};
-ghost use Prim.Native.Nat.{ℕ, _≤_};
-ghost use lib.ListN.{length};
 ghost use Rattle.array.specs.Cells.{isSide, cells};
 ghost use Rattle.mesh.specs.Cells.{Sized, cellAt};
-ghost use Rattle.mover.specs.Swaps.{markCount, leavesOf, leavingOf, SwappedAll};
-
-fn one(mark: u8) -> usize
-    ensures { λ r. ⌜ (r ≡ markCount mark) × (r ≤ 1) ⌝ }
-{
-    if mark == 0 { 0 } else { 1 }
-}
-
-// How many records a swap takes from cell i to another, by the cell's marks.
-fn leaves(side: usize, i: usize, mark: u8, spare_mark: u8) -> usize
-    ensures { λ r. ⌜ (r ≡ leavesOf side i mark «spare_mark») × (r ≤ 2) ⌝ }
-{
-    if partner(side, i) == i {
-        return 0;
-    }
-    one(mark) + one(spare_mark)
-}
-
-// The same of all cells.
-fn leaving(side: usize, marks: &[u8], spare_marks: &[u8]) -> usize
-    requires { ⌜ (isSide side ≡ true) × (length (now marks) ≡ cells side) × (length (now «spare_marks») ≡ cells side) ⌝ }
-    ensures { λ r. ⌜ r ≡ leavingOf side (now (marks .entry)) (now («spare_marks» .entry)) ⌝ }
-{
-    let n = marks.len();
-    let mut count: usize = 0;
-    let mut i: usize = 0;
-    while i < n {
-        count += leaves(side, i, marks[i], spare_marks[i]);
-        i += 1;
-    }
-    count
-}
+ghost use Rattle.mover.specs.Swaps.{SwappedAll};
 
 // All six lanes swap; how many records are in another cell.
 pub(crate) fn swap_all(

@@ -1,92 +1,61 @@
--- `light::swap_words` meets its contract: turn after turn each cell trades with its partner where that comes later.
-use Prim.Native.Nat.{_-_}
+-- `light::swap_words` meets its contract: with the link list at side 8, and else with none.
 use mathlib.Core.Path.{sym, _∙_}
-use mathlib.Core.Logic.{inl, inr, ⊎-elim}
-use native.Mathlib.Omega.{arith}
-use borrow.Author.Needs.{needs}
 use borrow.Author.Tests.{not-true, not-false}
-use lib.ListN.{length-set}
-use Rattle.light.proofs.Turning.{Turning, not-swapped, turning-start, turning-few, turning-long, turning-partner, turning-turn, turning-end}
+use Rattle.light.proofs.Turning.{not-swapped}
+use Rattle.light.proofs.Partners.{listed-links, listed-none}
+use borrow.Author.Needs.{needs}
 use Rattle.light.proofs.swap_words.Statement.{statement}
 use Rattle.light.proofs.swap_words.Tie as tie
 
-abbrev Inv-loop : tie.InvT-loop
-Inv-loop side lane₀ n j₀ lane j = Turning side n j lane₀ lane
-
-abbrev μ-loop : tie.MeasureT-loop
-μ-loop side lane₀ n j₀ lane j = n - j
-
-is-board-requires : tie.Need-is-board-requires Inv-loop μ-loop
+is-board-requires : tie.Need-is-board-requires
 is-board-requires c κs = search needs
 
-returns : tie.Need-returns Inv-loop μ-loop
+returns : tie.Need-returns
 returns c = not-swapped (c .before .before .before .args .side) (c .before .before .before .args .lane .now) (sym (c .before .is-board .ensures) ∙ not-true _ (c .if1 .taken))
 
-loop-holds : tie.Need-loop-holds Inv-loop μ-loop
-loop-holds c = turning-start (c .before .before .before .args .side) (c .before .before .before .args .lane .now) (sym (c .before .is-board .ensures) ∙ not-false _ (c .if1 .left))
+links-requires : tie.Need-links-requires
+links-requires c κs = search needs
 
-partner-requires : tie.Need-partner-requires Inv-loop μ-loop
-partner-requires c κs = search needs
+slice-aggregate-trade-words : tie.Need-slice-aggregate-trade-words
+slice-aggregate-trade-words c = search needs
 
-mul-word : tie.Need-mul-word Inv-loop μ-loop
-mul-word c = omega (arith, turning-few (c .before .before .before .loop .inv), turning-partner (c .before .before .before .loop .inv) _ (c .before .before .loop-test .taken) (c .before .partner .ensures))
+trade-words-requires : tie.Need-trade-words-requires
+trade-words-requires c κs = (sym (c .before .before .before .before .before .is-board .ensures) ∙ not-false _ (c .before .before .before .before .if1 .left), listed-links _ _ (c .before .before .before .if2 .taken) (c .before .before .links .ensures))
 
-slice-read-word : tie.Need-slice-read-word Inv-loop μ-loop
-slice-read-word c = omega (arith, turning-long (c .before .before .before .before .loop .inv), turning-partner (c .before .before .before .before .loop .inv) _ (c .before .before .before .loop-test .taken) (c .before .before .partner .ensures))
+same-length : tie.Need-same-length
+same-length c = search needs
 
-mul-lane : tie.Need-mul-lane Inv-loop μ-loop
-mul-lane c = omega (arith, turning-few (c .before .before .before .before .loop .inv), turning-partner (c .before .before .before .before .loop .inv) _ (c .before .before .before .loop-test .taken) (c .before .before .partner .ensures))
+returns-2 : tie.Need-returns-2
+returns-2 c = search needs
 
-slice-read-lane : tie.Need-slice-read-lane Inv-loop μ-loop
-slice-read-lane c = omega (arith, turning-long (c .before .before .before .before .before .loop .inv), turning-partner (c .before .before .before .before .before .loop .inv) _ (c .before .before .before .before .loop-test .taken) (c .before .before .before .partner .ensures))
+array-share-prefix-none : tie.Need-array-share-prefix-none
+array-share-prefix-none c = search needs
 
-mul-lane-2 : tie.Need-mul-lane-2 Inv-loop μ-loop
-mul-lane-2 c = omega (arith, turning-few (c .before .before .before .before .before .loop .inv))
+slice-aggregate-trade-words-2 : tie.Need-slice-aggregate-trade-words-2
+slice-aggregate-trade-words-2 c = search needs
 
-slice-write-lane : tie.Need-slice-write-lane Inv-loop μ-loop
-slice-write-lane c = omega (arith, turning-long (c .before .before .before .before .before .loop .inv))
+trade-words-requires-2 : tie.Need-trade-words-requires-2
+trade-words-requires-2 c κs = (sym (c .before .before .before .before .is-board .ensures) ∙ not-false _ (c .before .before .before .if1 .left), listed-none (c .before .before .before .before .before .before .args .side))
 
-mul-lane-3 : tie.Need-mul-lane-3 Inv-loop μ-loop
-mul-lane-3 c = omega (arith, turning-few (c .before .before .before .before .before .loop .inv), turning-partner (c .before .before .before .before .before .loop .inv) _ (c .before .before .before .before .loop-test .taken) (c .before .before .before .partner .ensures))
+same-length-2 : tie.Need-same-length-2
+same-length-2 c = search needs
 
-slice-write-lane-2 : tie.Need-slice-write-lane-2 Inv-loop μ-loop
-slice-write-lane-2 c = simp length-set (omega (arith, turning-long (c .before .before .before .before .before .loop .inv), turning-partner (c .before .before .before .before .before .loop .inv) _ (c .before .before .before .before .loop-test .taken) (c .before .before .before .partner .ensures)))
-
-add-j : tie.Need-add-j Inv-loop μ-loop
-add-j c = omega (arith, turning-few (c .before .before .before .loop .inv))
-
-loop-less : tie.Need-loop-less Inv-loop μ-loop
-loop-less c = omega (arith, c .before .before .loop-test .taken)
-
-loop-again : tie.Need-loop-again Inv-loop μ-loop
-loop-again c = turning-turn (c .before .before .before .loop .inv) _ _ (c .before .before .loop-test .taken) (c .before .partner .ensures) (⊎-elim (λ w. inl (w .0 .taken, w .3)) (λ w. inr (w .0 .left, w .1)) (c .if2 .came))
-
-same-length : tie.Need-same-length Inv-loop μ-loop
-same-length c = turning-long (c .before .loop .inv)
-
-returns-2 : tie.Need-returns-2 Inv-loop μ-loop
-returns-2 c = turning-end (c .before .loop .inv) (c .loop-test .left)
+returns-3 : tie.Need-returns-3
+returns-3 c = search needs
 
 pub swap-words-spec : {M : Type 1} → statement M
 swap-words-spec =
     tie.close
     (tie.spec
-    Inv-loop
-    μ-loop
     is-board-requires
     returns
-    loop-holds
-    partner-requires
-    mul-word
-    slice-read-word
-    mul-lane
-    slice-read-lane
-    mul-lane-2
-    slice-write-lane
-    mul-lane-3
-    slice-write-lane-2
-    add-j
-    loop-less
-    loop-again
+    links-requires
+    slice-aggregate-trade-words
+    trade-words-requires
     same-length
-    returns-2)
+    returns-2
+    array-share-prefix-none
+    slice-aggregate-trade-words-2
+    trade-words-requires-2
+    same-length-2
+    returns-3)
