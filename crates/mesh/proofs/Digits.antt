@@ -1,16 +1,17 @@
 -- The distance of a record from its place, by the digits of its aim.
-use Prim.Native.Nat.{ℕ, _*_, _/_, _%_, _<_}
+use Prim.Native.Nat.{ℕ, _*_, _/_, _%_, _≤_, _<_}
 use mathlib.Core.Path.{_≡_, sym, ap, _∙_}
 use mathlib.Core.Bool.{Bool, true, false, cond}
-use native.Mathlib.Nat.{mod-lt, mod-eq-of-lt, mul-pos, div-one, one-mul, div-div-eq-div-mul}
+use native.Mathlib.Nat.{mod-lt, mod-eq-of-lt, mul-pos, div-one, one-mul, div-div-eq-div-mul, mul-le-mul}
 use native.Mathlib.Omega.{arith}
 use lib.Arith.{digits-div, digits-mod, mod-mul}
 use Rattle.array.specs.declared.moves.Way.{Way}
 use Rattle.array.specs.declared.moves.Way.the-variants.{Right, Left, Up, Down}
 use Rattle.array.specs.Cells.{groups, place, row, column}
+use Rattle.array.proofs.Board.{Side}
 use Rattle.travel.specs.Travel.{distance}
 use Rattle.mesh.specs.declared.moving.Rule.{Rule}
-use Rattle.mesh.specs.Digits.{unitOf, weight, scaleOf, coordinate, span}
+use Rattle.mesh.specs.Inside.{unitOf, weight, scaleOf, coordinate, span}
 use Rattle.mesh.specs.Mesh.{headingOf}
 
 module _ {s : ℕ} (pos : 0 < s) where
@@ -50,3 +51,16 @@ weight-pos s pos low Right = unit-pos s pos low
 weight-pos s pos low Left = unit-pos s pos low
 weight-pos s pos low Up = mul-pos (unit-pos s pos low) pos
 weight-pos s pos low Down = mul-pos (unit-pos s pos low) pos
+
+unit-few : {s : ℕ} → Side s → (low : Bool) → unitOf s low ≤ 64
+unit-few k true = omega arith
+unit-few k false = k .groups-few
+
+weight-few : {s : ℕ} → Side s → (low : Bool) (w : Way) → weight s low w ≤ 512
+weight-few k low Right = omega (arith, unit-few k low)
+weight-few k low Left = omega (arith, unit-few k low)
+weight-few {s} k low Up = mul-le-mul (unit-few k low) (k .most)
+weight-few {s} k low Down = mul-le-mul (unit-few k low) (k .most)
+
+pub scale-few : (t : Rule) → Side (t .side) → (0 < scaleOf t) × (scaleOf t ≤ 512)
+scale-few t k = (weight-pos (t .side) (k .least) (t .low) (t .way), weight-few k (t .low) (t .way))

@@ -17,7 +17,8 @@ use Rattle.mesh.specs.declared.cells.Cell.{Cell}
 use Rattle.mesh.specs.declared.moving.Rule.{Rule}
 use Rattle.mesh.specs.Cells.{countOf}
 use Rattle.mesh.specs.Mesh.{goerOf, movedOf}
-use Rattle.mesh.specs.Moved.{MovedPart, MovedAll}
+use Rattle.mesh.specs.Inside.{MovedPart}
+use Rattle.mesh.specs.Moved.{MovedAll}
 use Rattle.mesh.proofs.Sweep.{one-most}
 use Rattle.mesh.proofs.Parts.{moved-same}
 

@@ -2,6 +2,7 @@ pub mod Boards
 pub mod Digits
 pub mod Groups
 pub mod Parts
+pub mod Quotients
 pub mod Sending
 pub mod Slots
 pub mod Stepping

@@ -18,7 +18,7 @@ use Rattle.mesh.specs.declared.cells.Cell.{Cell}
 use Rattle.mesh.specs.declared.moving.Rule.{Rule}
 use Rattle.mesh.specs.Cells.{joined, countOf, cellAt, Sized}
 use Rattle.mesh.specs.Mesh.{goesIn, goerOf, stayedOf, behind, arrivalOf, movedOf}
-use Rattle.mesh.specs.Moved.{MovedGroup, MovedPart}
+use Rattle.mesh.specs.Inside.{MovedGroup, MovedPart}
 use Rattle.mesh.proofs.Slots.{cell-ext}
 use Rattle.mesh.proofs.Stepping.{ahead-reach, stepped}
 use Rattle.mesh.proofs.Sweep.{no-arrival, an-arrival, behind-in}

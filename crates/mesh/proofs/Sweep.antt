@@ -20,9 +20,9 @@ use Rattle.mesh.specs.declared.cells.Rec.{Rec}
 use Rattle.mesh.specs.declared.cells.Cell.{Cell}
 use Rattle.mesh.specs.declared.moving.Rule.{Rule}
 use Rattle.mesh.specs.Cells.{nothing, joined, countOf}
-use Rattle.mesh.specs.Digits.{turnOf}
+use Rattle.mesh.specs.Inside.{turnOf}
 use Rattle.mesh.specs.Mesh.{headingOf, goesIn, goerOf, stayedOf, behind, arrivalOf, movedOf}
-use Rattle.mesh.specs.Moved.{Sent, MovedGroup}
+use Rattle.mesh.specs.Inside.{Sent, MovedGroup}
 use Rattle.mesh.proofs.Slots.{joined-none}
 use Rattle.mesh.proofs.Stepping.{stepped, from-behind, distance-ahead, step-other}
 

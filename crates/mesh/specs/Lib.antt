@@ -1,4 +1,4 @@
 pub mod Cells
-pub mod Digits
+pub mod Inside
 pub mod Mesh
 pub mod Moved

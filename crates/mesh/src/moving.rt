@@ -8,14 +8,15 @@ use crate::cells::put;
 use crate::cells::read;
 use array::moves::Way;
 ghost use mathlib.Core.Path.{_≡_};
-ghost use mathlib.Core.Bool.{true};
-ghost use Prim.Native.Nat.{ℕ, _+_, _-_, _*_, _<_, _≤_};
+ghost use mathlib.Core.Bool.{true, _||_};
+ghost use Prim.Native.Nat.{ℕ, _+_, _-_, _*_, _/_, _%_, _<_, _≤_};
 ghost use lib.ListN.{length};
 ghost use Rattle.array.specs.Cells.{isSide, groups, cells, onward as onwardOf};
 ghost use Rattle.mesh.specs.Cells.{Sized, cellAt, areLanes};
-ghost use Rattle.mesh.specs.Digits.{unitOf, scaleOf, coordinate as coordinateOf, span as spanOf, turnOf};
-ghost use Rattle.mesh.specs.Mesh.{goesIn, goerOf, stayedOf};
-ghost use Rattle.mesh.specs.Moved.{Sent, MovedGroup, MovedPart, MovedLanes};
+ghost use Rattle.mesh.specs.Inside.{unitOf, scaleOf, coordinate as coordinateOf, span as spanOf, turnOf};
+ghost use Rattle.mesh.specs.Mesh.{goesIn, firstOf, restOf};
+ghost use Rattle.mesh.specs.Moved.{MovedLanes};
+ghost use Rattle.mesh.specs.Inside.{shareOf, Measured, HandedOn, Sent, MovedGroup, MovedPart};
 
 // One move of a list: the way, whether a record heads for its aim mod N (low) or div N, and how far off it waits.
 pub struct Rule {
@@ -25,10 +26,11 @@ pub struct Rule {
     pub wait: usize,
 }
 
-// A cell taken apart: the record that leaves it, and what stays.
-struct Parted {
-    goer: Rec,
-    rest: Cell,
+// What a move divides by, the weight of the digit of an aim that its way goes by, and the side, each with 2^32 over it: a record then costs no division.
+struct Measure {
+    scale: usize,
+    inverse: usize,
+    share: usize,
 }
 
 // a - b, or 0 where b is the greater.
@@ -39,7 +41,7 @@ fn over(a: usize, b: usize) -> usize
 }
 
 fn wide(x: u16) -> usize
-    ensures { λ r. ⌜ r ≡ x ⌝ }
+    ensures { λ r. ⌜ (r ≡ x) × (r < 65536) ⌝ }
 {
     x as usize
 }
@@ -67,16 +69,50 @@ fn scale(t: Rule) -> usize
     }
 }
 
+fn share(by: usize) -> usize
+    requires { ⌜ 0 < by ⌝ }
+    ensures { λ r. ⌜ r ≡ shareOf by ⌝ }
+{
+    4294967296 / by + 1
+}
+
+fn measured(t: Rule) -> Measure
+    requires { ⌜ isSide (t .side) ≡ true ⌝ }
+    ensures { λ r. ⌜ Measured t r ⌝ }
+{
+    let scale = scale(t);
+    Measure {
+        scale: scale,
+        inverse: share(scale),
+        share: share(t.side),
+    }
+}
+
+// x / by and x % by, by a product.
+fn quotient(x: usize, by: usize, share: usize) -> usize
+    requires { ⌜ (x < 65536) × (0 < by) × (by ≤ 512) × (share ≡ shareOf by) ⌝ }
+    ensures { λ r. ⌜ r ≡ x / by ⌝ }
+{
+    x * share / 4294967296
+}
+
+fn remainder(x: usize, by: usize, share: usize) -> usize
+    requires { ⌜ (x < 65536) × (0 < by) × (by ≤ 512) × (share ≡ shareOf by) ⌝ }
+    ensures { λ r. ⌜ r ≡ x % by ⌝ }
+{
+    x - quotient(x, by, share) * by
+}
+
 // The column or the row of a place.
-fn coordinate(side: usize, way: Way, at: usize) -> usize
-    requires { ⌜ 0 < side ⌝ }
+fn coordinate(side: usize, share: usize, way: Way, at: usize) -> usize
+    requires { ⌜ (at < 65536) × (0 < side) × (side ≤ 512) × (share ≡ shareOf side) ⌝ }
     ensures { λ r. ⌜ r ≡ coordinateOf side way at ⌝ }
 {
     match way {
-        Way::Right => at % side,
-        Way::Left => at % side,
-        Way::Up => at / side,
-        Way::Down => at / side,
+        Way::Right => remainder(at, side, share),
+        Way::Left => remainder(at, side, share),
+        Way::Up => quotient(at, side, share),
+        Way::Down => quotient(at, side, share),
     }
 }
 
@@ -92,53 +128,50 @@ fn span(way: Way, to: usize, at: usize) -> usize
     }
 }
 
-// Whether a record goes.
-fn goes(t: Rule, scale: usize, at: usize, x: Rec) -> bool
+// Whether a record of this mark and aim goes.
+fn goes(t: Rule, m: Measure, at: usize, mark: u8, aim: u16) -> bool
     requires { ⌜ isSide (t .side) ≡ true ⌝ }
-    requires { ⌜ (scale ≡ scaleOf t) × (0 < scale) × (at < groups (t .side)) ⌝ }
-    ensures { λ r. ⌜ r ≡ goesIn t at x ⌝ }
+    requires { ⌜ Measured t m × (at < groups (t .side)) ⌝ }
+    ensures { λ r. ⌜ ((word : ℕ) → r ≡ goesIn t at (record { word = word; mark = mark; aim = aim })) ⌝ }
 {
-    if x.mark == 0 {
+    if mark == 0 {
         return false;
     }
     let way = t.way;
-    let digit = wide(x.aim) / scale % t.side;
-    t.wait < span(way, digit, coordinate(t.side, way, at))
+    let upper = quotient(wide(aim), m.scale, m.inverse);
+    let digit = remainder(upper, t.side, m.share);
+    t.wait < span(way, digit, coordinate(t.side, m.share, way, at))
 }
 
-// A cell taken apart: the front record leaves where it goes, or else the spare one.
-fn part(t: Rule, scale: usize, at: usize, c: Cell) -> Parted
-    requires { ⌜ isSide (t .side) ≡ true ⌝ }
-    requires { ⌜ (scale ≡ scaleOf t) × (0 < scale) × (at < groups (t .side)) ⌝ }
-    ensures { λ r. ⌜ (r .goer ≡ goerOf t at c) × (r .rest ≡ stayedOf t at c) ⌝ }
+// The record that leaves a cell, the front one or the spare one, and the cell without it.
+fn leaver(first: bool, c: Cell) -> Rec
+    ensures { λ r. ⌜ r ≡ firstOf first true c ⌝ }
+{
+    if first { c.front } else { c.spare }
+}
+
+fn left(first: bool, c: Cell) -> Cell
+    ensures { λ r. ⌜ r ≡ restOf first true c ⌝ }
 {
     let front = c.front;
     let spare = c.spare;
     let none = nothing();
-    if goes(t, scale, at, front) {
-        let rest = Cell {
+    if first {
+        return Cell {
             front: spare,
             spare: none,
         };
-        return Parted {
-            goer: front,
-            rest: rest,
-        };
     }
-    if goes(t, scale, at, spare) {
-        let rest = Cell {
-            front: front,
-            spare: none,
-        };
-        return Parted {
-            goer: spare,
-            rest: rest,
-        };
+    Cell {
+        front: front,
+        spare: none,
     }
-    Parted {
-        goer: none,
-        rest: c,
-    }
+}
+
+fn either(a: bool, b: bool) -> bool
+    ensures { λ r. ⌜ r ≡ a || b ⌝ }
+{
+    if a { true } else { b }
 }
 
 // The next place along the way.
@@ -167,10 +200,64 @@ fn turn(way: Way, n: usize, k: usize) -> usize
     }
 }
 
-// One place of a group sends on the record that leaves it, if one does; how many did. Where none leaves nothing is stored.
+// The front record of a place, or the spare one, goes to another place.
+fn hand_on(
+    n: usize,
+    first: bool,
+    at: usize,
+    to: usize,
+    words: &mut [u32],
+    marks: &mut [u8],
+    aims: &mut [u16],
+    spare_words: &mut [u32],
+    spare_marks: &mut [u8],
+    spare_aims: &mut [u16],
+)
+    requires { ⌜ Sized n (now words) (now marks) (now aims) (now «spare_words») (now «spare_marks») (now «spare_aims») ⌝ }
+    requires { ⌜ (at < n) × (to < n) ⌝ }
+    ensures { λ _. ⌜ HandedOn first at to (cellAt (now (words .entry)) (now (marks .entry)) (now (aims .entry)) (now («spare_words» .entry)) (now («spare_marks» .entry)) (now («spare_aims» .entry))) (cellAt (now (words .exit)) (now (marks .exit)) (now (aims .exit)) (now («spare_words» .exit)) (now («spare_marks» .exit)) (now («spare_aims» .exit))) ⌝ }
+{
+    let own = read(
+        n,
+        words,
+        marks,
+        aims,
+        spare_words,
+        spare_marks,
+        spare_aims,
+        at,
+    );
+    let there = read(
+        n,
+        words,
+        marks,
+        aims,
+        spare_words,
+        spare_marks,
+        spare_aims,
+        to,
+    );
+    let met = joined(there, leaver(first, own));
+    let rest = left(first, own);
+    put(
+        n,
+        at,
+        rest,
+        to,
+        met,
+        words,
+        marks,
+        aims,
+        spare_words,
+        spare_marks,
+        spare_aims,
+    );
+}
+
+// One place of a group sends on the record that leaves it, if one does; how many did. Only marks and aims are looked at where none does.
 fn send(
     t: Rule,
-    scale: usize,
+    m: Measure,
     n: usize,
     at: usize,
     words: &mut [u32],
@@ -181,52 +268,22 @@ fn send(
     spare_aims: &mut [u16],
 ) -> usize
     requires { ⌜ isSide (t .side) ≡ true ⌝ }
-    requires { ⌜ (scale ≡ scaleOf t) × (0 < scale) × (at < groups (t .side)) ⌝ }
-    requires { ⌜ n ≡ groups (t .side) ⌝ }
+    requires { ⌜ Measured t m × (at < groups (t .side)) × (n ≡ groups (t .side)) ⌝ }
     requires { ⌜ Sized n (now words) (now marks) (now aims) (now «spare_words») (now «spare_marks») (now «spare_aims») ⌝ }
     ensures { λ r. ⌜ Sent t at (cellAt (now (words .entry)) (now (marks .entry)) (now (aims .entry)) (now («spare_words» .entry)) (now («spare_marks» .entry)) (now («spare_aims» .entry))) (cellAt (now (words .exit)) (now (marks .exit)) (now (aims .exit)) (now («spare_words» .exit)) (now («spare_marks» .exit)) (now («spare_aims» .exit))) r ⌝ }
 {
-    let parted = part(
-        t,
-        scale,
-        at,
-        read(
-            n,
-            words,
-            marks,
-            aims,
-            spare_words,
-            spare_marks,
-            spare_aims,
-            at,
-        ),
-    );
-    let goer = parted.goer;
-    if goer.mark == 0 {
+    let first = goes(t, m, at, marks[at], aims[at]);
+    let second = goes(t, m, at, spare_marks[at], spare_aims[at]);
+    if !either(first, second) {
         return 0;
     }
-    let rest = parted.rest;
     let way = t.way;
     let to = onward(t.side, way, at);
-    let met = joined(
-        read(
-            n,
-            words,
-            marks,
-            aims,
-            spare_words,
-            spare_marks,
-            spare_aims,
-            to,
-        ),
-        goer,
-    );
-    put(
+    hand_on(
         n,
+        first,
         at,
-        rest,
         to,
-        met,
         words,
         marks,
         aims,
@@ -253,14 +310,14 @@ fn move_group(
 {
     let n = words.len();
     let way = t.way;
-    let scale = scale(t);
+    let m = measured(t);
     let mut moved: usize = 0;
     let mut k: usize = 0;
     while k < n {
         let at = turn(way, n, k);
         moved += send(
             t,
-            scale,
+            m,
             n,
             at,
             words,

@@ -1,7 +1,7 @@
 -- `mesh::moving::move_group` meets its contract: from the far end back, what is sent on is not met again (Sweep).
 use Prim.Native.Nat.{ℕ, _-_, _≤_}
 use mathlib.Core.Path.{ap, _≡_, _∙_}
-use Rattle.mesh.specs.Digits.{turnOf}
+use Rattle.mesh.specs.Inside.{turnOf}
 use native.Mathlib.Omega.{arith}
 use lib.ListN.{length}
 use Rattle.array.specs.Cells.{groups}
@@ -17,8 +17,8 @@ Inv-loop t words₀ marks₀ aims₀ spare-words₀ spare-marks₀ spare-aims₀
 abbrev μ-loop : tie.MeasureT-loop
 μ-loop t words₀ marks₀ aims₀ spare-words₀ spare-marks₀ spare-aims₀ n way scale moved₀ k₀ words marks aims spare-words spare-marks spare-aims moved k = n - k
 
-scale-requires : tie.Need-scale-requires Inv-loop μ-loop
-scale-requires c κs = c .before .before .before .before .before .before .pre .0
+measured-requires : tie.Need-measured-requires Inv-loop μ-loop
+measured-requires c κs = c .before .before .before .before .before .before .pre .0
 
 loop-holds : tie.Need-loop-holds Inv-loop μ-loop
 loop-holds c = let s = c .before .before .before .before .before .before .before in (omega arith, s .pre .1 .words, rw (s .pre .1 .words) (s .pre .1), swept-start (s .args .t) _ _)
@@ -27,7 +27,7 @@ turn-requires : tie.Need-turn-requires Inv-loop μ-loop
 turn-requires c κs = c .loop-test .taken
 
 send-requires : tie.Need-send-requires Inv-loop μ-loop
-send-requires c κs = let s = c .before .before .before .before .before .before .before .before .before .before .before .before .before .before .before .before in let l = c .before .before .before .before .before .before .before .before .loop in (s .pre .0, ((c .before .before .before .before .before .before .before .before .before .scale .ensures .0, c .before .before .before .before .before .before .before .before .before .scale .ensures .1, omega (arith, c .before .before .before .before .before .before .turn .ensures, turn-below (s .args .t .way) (length (s .args .words .now)) (l .k) (c .before .before .before .before .before .before .before .loop-test .taken), l .inv .1)), (l .inv .1, l .inv .2)))
+send-requires c κs = let s = c .before .before .before .before .before .before .before .before .before .before .before .before .before .before .before .before in let l = c .before .before .before .before .before .before .before .before .loop in (s .pre .0, ((c .before .before .before .before .before .before .before .before .before .measured .ensures, omega (arith, c .before .before .before .before .before .before .turn .ensures, turn-below (s .args .t .way) (length (s .args .words .now)) (l .k) (c .before .before .before .before .before .before .before .loop-test .taken), l .inv .1), l .inv .1), l .inv .2))
 
 add-moved : tie.Need-add-moved Inv-loop μ-loop
 add-moved c = omega (arith, swept-few (c .before .before .before .before .before .before .before .before .before .before .before .before .before .before .before .before .before .before .before .before .before .loop .inv .3), sent-few (c .before .before .before .before .before .before .before .before .before .before .before .before .send .ensures), c .before .before .before .before .before .before .before .before .before .before .before .before .before .before .before .before .before .before .before .before .loop-test .taken, c .before .before .before .before .before .before .before .before .before .before .before .before .before .before .before .before .before .before .before .before .before .loop .inv .1, side-known (c .before .before .before .before .before .before .before .before .before .before .before .before .before .before .before .before .before .before .before .before .before .before .before .before .before .before .before .before .before .args .t .side) (c .before .before .before .before .before .before .before .before .before .before .before .before .before .before .before .before .before .before .before .before .before .before .before .before .before .before .before .before .before .pre .0) .groups-few)
@@ -68,7 +68,7 @@ move-group-spec =
     (tie.spec
     Inv-loop
     μ-loop
-    scale-requires
+    measured-requires
     loop-holds
     turn-requires
     send-requires
