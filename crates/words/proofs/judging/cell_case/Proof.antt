@@ -1,0 +1,16 @@
+-- `words::judging::cell_case` meets its contract: the test is that of the array.
+use borrow.Author.Needs.{needs}
+use Rattle.words.proofs.judging.cell_case.Statement.{statement}
+use Rattle.words.proofs.judging.cell_case.Tie as tie
+use Rattle.words.proofs.judging.cell_case.Reads as reads
+use Rattle.words.proofs.judging.cell_case.Lts as lts
+use Rattle.array.proofs.cells.is_cell.Reads as is-cell-reads
+
+is-cell-requires : tie.Need-is-cell-requires
+is-cell-requires c κs = search needs
+
+returns : tie.Need-returns
+returns c = rw (c .is-cell .ensures)
+
+pub cell-case-spec : {M : Type 1} → statement M
+cell-case-spec = tie.close (tie.spec is-cell-requires returns)

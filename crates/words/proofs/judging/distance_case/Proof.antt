@@ -1,0 +1,22 @@
+-- `words::judging::distance_case` meets its contract: the test is that of the array, on the distance as the machine reads it.
+use mir.Syntax.{w32}
+use mir.ValLaws.{toZ-ofZ}
+use borrow.Author.Needs.{needs}
+use Rattle.words.proofs.judging.distance_case.Statement.{statement}
+use Rattle.words.proofs.judging.distance_case.Tie as tie
+use Rattle.words.proofs.judging.distance_case.Reads as reads
+use Rattle.words.proofs.judging.distance_case.Lts as lts
+use Rattle.shifts.proofs.distance_of.Reads as distance-of-reads
+use Rattle.shifts.proofs.is_within.Reads as is-within-reads
+
+distance-of-requires : tie.Need-distance-of-requires
+distance-of-requires c κs = search needs
+
+is-within-requires : tie.Need-is-within-requires
+is-within-requires c κs = search needs
+
+returns : tie.Need-returns
+returns c = rw (c .is-within .ensures, c .before .distance-of .ensures, toZ-ofZ w32 (c .before .before .args .k) (c .before .before .fits .k))
+
+pub distance-case-spec : {M : Type 1} → statement M
+distance-case-spec = tie.close (tie.spec distance-of-requires is-within-requires returns)
