@@ -1,7 +1,3 @@
-// The board: its cells and links, the moves it can make, the move list of every operation, and how an entry answers.
-pub mod answers;
+// The board: its cells and links, and the moves that it can make.
 pub mod cells;
-pub mod lists;
-pub mod logs;
 pub mod moves;
-pub mod shifts;

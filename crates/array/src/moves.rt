@@ -1,6 +1,6 @@
-// The moves that the array can make, their codes in a log, and runs of moves.
+// The moves that the array can make, and their codes in a log.
 ghost use mathlib.Core.Path.{_≡_};
-ghost use Rattle.array.specs.Moves.{codeOf, loggedOf, along as alongOf, swapping as swappingOf, whole as wholeOf, opposite as oppositeOf, electronicIn, swapsIn};
+ghost use Rattle.array.specs.Moves.{codeOf, loggedOf, opposite as oppositeOf};
 
 pub enum Way {
     Right,
@@ -23,12 +23,6 @@ pub const LEFT: Move = Move::Electronic(Way::Left);
 pub const UP: Move = Move::Electronic(Way::Up);
 
 pub const DOWN: Move = Move::Electronic(Way::Down);
-
-// The same move made several times.
-pub struct Run {
-    pub step: Move,
-    pub times: usize,
-}
 
 // A line of a log: the move, and how many records changed cell in it.
 pub struct LogLine {
@@ -85,58 +79,5 @@ pub fn opposite(way: Way) -> Way
         Way::Left => Way::Right,
         Way::Up => Way::Down,
         Way::Down => Way::Up,
-    }
-}
-
-pub fn along(way: Way, times: usize) -> Run
-    ensures { λ r. ⌜ r ≡ alongOf way times ⌝ }
-{
-    Run {
-        step: Move::Electronic(way),
-        times: times,
-    }
-}
-
-pub fn swapping(times: usize) -> Run
-    ensures { λ r. ⌜ r ≡ swappingOf times ⌝ }
-{
-    Run {
-        step: Move::Swap,
-        times: times,
-    }
-}
-
-// A run the whole way: n electronic moves, or one swap.
-pub fn whole(n: usize, step: Move) -> Run
-    ensures { λ r. ⌜ r ≡ wholeOf n step ⌝ }
-{
-    match step {
-        Move::Swap => Run {
-            step: Move::Swap,
-            times: 1,
-        },
-        Move::Electronic(way) => Run {
-            step: Move::Electronic(way),
-            times: n,
-        },
-    }
-}
-
-// How many of n moves of a kind are electronic, and how many are swaps.
-pub fn electronic_in(step: Move, n: usize) -> usize
-    ensures { λ r. ⌜ r ≡ electronicIn step n ⌝ }
-{
-    match step {
-        Move::Swap => 0,
-        Move::Electronic(_) => n,
-    }
-}
-
-pub fn swaps_in(step: Move, n: usize) -> usize
-    ensures { λ r. ⌜ r ≡ swapsIn step n ⌝ }
-{
-    match step {
-        Move::Swap => n,
-        Move::Electronic(_) => 0,
     }
 }

@@ -6,43 +6,14 @@ use mathlib.Core.List.{List, [], _∷_, map}
 use native.Mathlib.Omega.{arith}
 use lib.ListN.{length, getD, set, replicate, length-replicate, length-set}
 use lib.Dec.{ltb, eqb}
-use borrow.Author.Tests.{eqb-true, eqb-false, eq-eqb, ne-eqb, lt-ltb, le-ltb, ltb-true, ltb-false}
+use borrow.Author.Tests.{eq-eqb, ne-eqb, lt-ltb}
 use Rattle.laws.specs.Sums.{sum}
-use Rattle.laws.proofs.Sums.{sum-cong}
+use Rattle.laws.proofs.Sums.{sum-cong, sum-nothing, one-more}
 use Rattle.marks.specs.Marks.{rankIn}
 use Rattle.jobtext.specs.Verdicts.{Marked}
 use Rattle.jobtext.specs.Lanes.{laid}
 use Rattle.jobtext.proofs.Accepted.{Rising, valueAt, absent, table}
 use Rattle.jobs.specs.Outputs.{homeOf}
-
--- a sum in which one value is 1 that would be 0
-one-more : (n j : ℕ) (f : ℕ → ℕ) → f j ≡ 0 → sum n (λ k. cond (eqb k j) 1 (f k)) ≡ cond (ltb j n) 1 0 + sum n f
-one-more zero j f e = rw (le-ltb j 0 (omega arith))
-one-more (suc n) j f e = go (eqb n j) refl (one-more n j f e)
-  where
-    other : (u : Bool) → ltb j n ≡ u → (n ≡ j → ⊥) → sum n (λ k. cond (eqb k j) 1 (f k)) ≡ cond (ltb j n) 1 0 + sum n f
-        → sum n (λ k. cond (eqb k j) 1 (f k)) + f n ≡ cond (ltb j (suc n)) 1 0 + (sum n f + f n)
-    other true p d ih =
-        let i : sum n (λ k. cond (eqb k j) 1 (f k)) ≡ 1 + sum n f = rw p at ih in
-        let l : j < suc n = omega (arith, ltb-true j n p) in
-        rw (lt-ltb j (suc n) l) (omega arith)
-    other false p d ih =
-        let i : sum n (λ k. cond (eqb k j) 1 (f k)) ≡ 0 + sum n f = rw p at ih in
-        let l : suc n ≤ j = omega (arith, ltb-false j n p) in
-        rw (le-ltb j (suc n) l) (omega arith)
-
-    go : (t : Bool) → eqb n j ≡ t → sum n (λ k. cond (eqb k j) 1 (f k)) ≡ cond (ltb j n) 1 0 + sum n f
-        → sum n (λ k. cond (eqb k j) 1 (f k)) + cond (eqb n j) 1 (f n) ≡ cond (ltb j (suc n)) 1 0 + (sum n f + f n)
-    go true q ih =
-        let d : n ≡ j = eqb-true n j q in
-        let z : f n ≡ 0 = rw d e in
-        let i : sum n (λ k. cond (eqb k j) 1 (f k)) ≡ 0 + sum n f = rw (le-ltb j n (omega arith)) at ih in
-        rw (q, lt-ltb j (suc n) (omega arith)) (omega arith)
-    go false q ih = rw q (other (ltb j n) refl (eqb-false n j q) ih)
-
-sum-nothing : (n : ℕ) (f : ℕ → ℕ) → ((k : ℕ) → k < n → f k ≡ 0) → sum n f ≡ 0
-sum-nothing zero f h = refl
-sum-nothing (suc n) f h = omega (arith, sum-nothing n f (λ k l. h k (omega arith)), h n (omega arith))
 
 -- the mark that a list of marked cells gives cell k
 abbrev markAt : List Marked → ℕ → ℕ

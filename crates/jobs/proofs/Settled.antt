@@ -1,27 +1,28 @@
 -- Lanes of a board with good marks: rank accepts them, concentrate accepts what rank leaves, and its logs and words are those of the marked cells.
-use Prim.Native.Nat.{ℕ, zero, suc, _+_, _-_, _≤_, _<_}
+use Prim.Native.Nat.{ℕ, _≤_, _<_}
 use mathlib.Core.Path.{_≡_, refl, ap, _∙_}
 use mathlib.Core.Bool.{Bool, true, false, not, _&&_}
-use mathlib.Core.List.{List, [], _∷_}
+use mathlib.Core.List.{List, []}
 use native.Mathlib.Omega.{arith}
-use borrow.Author.Tests.{eq-eqb, lt-ltb, le-ltb}
+use borrow.Author.Tests.{eq-eqb, le-ltb}
 use lib.ListN.{length, getD, take, length-map}
-use lib.Seq.{sets, sets-eq, take-at, length-sets}
+use lib.Seq.{sets, length-sets}
 use lib.Dec.{eqb}
-use Rattle.laws.specs.Searching.{firstFrom, first}
+use Rattle.laws.specs.Searching.{first}
+use Rattle.laws.proofs.Searching.{all-passed}
+use Rattle.laws.proofs.Stores.{front-of}
 use Rattle.laws.proofs.Tables.{entry-at, length-entries}
 use Rattle.answers.specs.declared.Answer.{Answer}
-use Rattle.logs.specs.declared.Run.{Run}
 use Rattle.array.specs.Cells.{isSide, cells}
 use Rattle.array.specs.Moves.{codeOf}
 use Rattle.logs.specs.Runs.{moves, electronic, swaps, codes as codesOf}
 use Rattle.lists.specs.Lists.{concentrateRuns, prefixSumRuns}
-use Rattle.answers.specs.Answers.{verdict, sideCase, laneCase, logCase, accepted, acceptedBy}
+use Rattle.answers.specs.Answers.{verdict, accepted, acceptedBy}
 use Rattle.array.proofs.Board.{side-known}
-use Rattle.lists.proofs.Counts.{prefix-sum-electronic, prefix-sum-swaps, concentrate-length}
-use Rattle.logs.proofs.Lengths.{length-moves}
-use Rattle.answers.proofs.Verdicts.{accepted-is}
-use Rattle.marks.specs.Marks.{firstBad, marksCase, rankIn}
+use Rattle.lists.proofs.Counts.{prefix-sum-length, concentrate-length}
+use Rattle.answers.proofs.Verdicts.{accepted-is, side-passes, lane-passes, log-passes}
+use Rattle.marks.specs.Marks.{marksCase, rankIn}
+use Rattle.marks.proofs.Checked.{good-passes}
 use Rattle.ranking.specs.Ranks.{aimIn, ranks}
 use Rattle.ranking.specs.Entries.{rankCases, Ranked}
 use Rattle.records.specs.Cases.{badAim, aimsCase}
@@ -31,37 +32,15 @@ use Rattle.jobs.specs.Filled.{movesOf}
 use Rattle.jobs.specs.Inside.{Board, Settled}
 use Rattle.jobs.proofs.Ended.{word-there}
 
--- a search for what is nowhere
-all-passed : (test : ℕ → Bool) (i n : ℕ) → ((k : ℕ) → i ≤ k → k < i + n → test k ≡ false) → firstFrom test i n ≡ i + n
-all-passed test i zero h = omega arith
-all-passed test i (suc n) h =
-    rw (h i (omega arith) (omega arith))
-    (all-passed test (suc i) n (λ k l u. h k (omega arith) (omega arith)) ∙ omega arith)
-
-marks-passed : (i : ℕ) (ms : List ℕ) → ((k : ℕ) → k < length ms → getD ms k 0 < 2) → firstBad i ms ≡ i + length ms
-marks-passed i [] h = omega arith
-marks-passed i (m ∷ ms) h =
-    rw (lt-ltb m 2 (h 0 (omega arith)))
-    (marks-passed (suc i) ms (λ k l. h (suc k) (omega arith)) ∙ omega arith)
-
-lane-passes : (s n : ℕ) → n ≡ cells s → laneCase s n .applies ≡ false
-lane-passes s n e = rw (eq-eqb n (cells s) e)
-
-log-passes : (rs : List Run) (n : ℕ) → length (moves rs) ≤ n → logCase rs n .applies ≡ false
-log-passes rs n h = le-ltb n (length (moves rs)) h
-
 module _ (s : ℕ) (side : isSide s ≡ true) (marks : List ℕ) (long : length marks ≡ cells s) (good : (k : ℕ) → k < length marks → getD marks k 0 < 2) where
-  side-passes : sideCase s .applies ≡ false
-  side-passes = rw side
-
   marks-pass : marksCase marks .applies ≡ false
-  marks-pass = le-ltb (firstBad 0 marks) (length marks) (omega (arith, marks-passed 0 marks good))
+  marks-pass = good-passes marks good
 
   -- rank accepts
   pub rank-accepts : (aims log : ℕ) (a : Answer) → aims ≡ cells s → 51 ≤ log → verdict (rankCases s marks aims log) a ≡ a
   rank-accepts aims log a e h =
       accepted-is (rankCases s marks aims log) a
-      (side-passes, (lane-passes s (length marks) long, (lane-passes s aims e, (log-passes (prefixSumRuns s) log (omega (arith, length-moves (prefixSumRuns s), prefix-sum-electronic s, prefix-sum-swaps s, side-known s side .most)), (marks-pass, tt)))))
+      (side-passes s side, (lane-passes s (length marks) long, (lane-passes s aims e, (log-passes (prefixSumRuns s) log (omega (arith, prefix-sum-length s, side-known s side .most)), (marks-pass, tt)))))
 
   -- its aims are good
   aim-good : (k : ℕ) → k < length marks → badAim false s marks (ranks s marks) k ≡ false
@@ -80,14 +59,14 @@ module _ (s : ℕ) (side : isSide s ≡ true) (marks : List ℕ) (long : length 
   aims-pass : aimsCase false s marks (ranks s marks) .applies ≡ false
   aims-pass =
       le-ltb (first (badAim false s marks (ranks s marks)) (length marks)) (length marks)
-      (omega (arith, all-passed (badAim false s marks (ranks s marks)) 0 (length marks) (λ k l u. aim-good k (omega arith))))
+      (omega (arith, all-passed (badAim false s marks (ranks s marks)) (length marks) aim-good))
 
   -- concentrate accepts
   pub concentrate-accepts : (w a w₂ m₂ a₂ codes moved : ℕ) (b : Answer) → w ≡ cells s → a ≡ cells s → w₂ ≡ cells s → m₂ ≡ cells s → a₂ ≡ cells s → 51 ≤ codes → 51 ≤ moved
       → verdict (fullCases false s w (length marks) a w₂ m₂ a₂ codes moved marks (ranks s marks)) b ≡ b
   concentrate-accepts w a w₂ m₂ a₂ codes moved b p q p₂ o₂ q₂ c m =
       accepted-is (fullCases false s w (length marks) a w₂ m₂ a₂ codes moved marks (ranks s marks)) b (
-        side-passes,
+        side-passes s side,
         (
           lane-passes s w p,
           (
@@ -111,10 +90,6 @@ module _ (s : ℕ) (side : isSide s ≡ true) (marks : List ℕ) (long : length 
           ),
         ),
       )
-
--- what was written at the start of a log is read there
-front-of : (l vs : List ℕ) (n : ℕ) → length vs ≡ n → n ≤ length l → take n (sets l 0 vs) ≡ vs
-front-of l vs n e h = ap (take n) (sets-eq vs l 0 (omega arith)) ∙ take-at vs _ n e
 
 -- a whole run of concentrate behind rank
 module _ {s : ℕ} {w m a w₂ m₂ a₂ codes moved : List ℕ} (b : Board s w m a w₂ m₂ a₂ codes moved) where

@@ -2,7 +2,7 @@
 use Prim.Native.Nat.{ℕ, zero, suc, _+_, _-_, _≤_, _<_}
 use mathlib.Core.Path.{_≡_, refl, _∙_}
 use mathlib.Core.Bool.{Bool, true, false, cond}
-use native.Mathlib.Nat.{add-zero, sub-zero}
+use native.Mathlib.Nat.{add-zero, zero-add, sub-zero}
 use native.Mathlib.Numerals.{add-one}
 use native.Mathlib.Omega.{arith}
 use borrow.Author.Tests.{ltb-false}
@@ -51,3 +51,12 @@ module _ (test : ℕ → Bool) (n : ℕ) where
   none-found h k l =
       let e : 0 + k ≡ k = omega arith in
       rw e at (none-from 0 n (omega (arith, ltb-false (first test n) n h)) k l)
+
+  passed-from : (i m : ℕ) → ((k : ℕ) → i ≤ k → k < i + m → test k ≡ false) → firstFrom test i m ≡ i + m
+  passed-from i zero h = omega arith
+  passed-from i (suc m) h =
+      rw (h i (omega arith) (omega arith))
+      (passed-from (suc i) m (λ k l u. h k (omega arith) (omega arith)) ∙ omega arith)
+
+  pub all-passed : ((k : ℕ) → k < n → test k ≡ false) → first test n ≡ n
+  all-passed h = passed-from 0 n (λ k l u. h k (omega arith)) ∙ zero-add n

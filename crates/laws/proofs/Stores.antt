@@ -6,7 +6,7 @@ use mathlib.Core.Logic.{⊎-elim}
 use native.Mathlib.Nat.{add-zero, add-suc, suc-add, sub-self, eq-or-lt-of-le}
 use native.Mathlib.Omega.{arith}
 use lib.ListN.{length, set, take, drop, getD, take-append-drop}
-use lib.Seq.{sets, set-out, take-suc, take-all, length-take-le, length-sets}
+use lib.Seq.{sets, sets-eq, set-out, take-at, take-suc, take-all, length-take-le, length-sets}
 
 module _ {A : Type 0} where
   pub sets-append : (l : List A) (i : ℕ) (vs ws : List A) → sets l i (vs ++ ws) ≡ sets (sets l i vs) (i + length vs) ws
@@ -56,3 +56,7 @@ module _ {A : Type 0} (l vs : List A) (from : ℕ) where
           ∙ sym (sets-past (sets l from (take (at - from) vs)) (from + length (take (at - from) vs)) (drop (at - from) vs) (rw (length-sets, length-take-le (at - from) vs n) (omega (arith, z .past))))
           ∙ sym (sets-append l from (take (at - from) vs) (drop (at - from) vs))
           ∙ ap (sets l from) (take-append-drop (at - from) vs)
+
+-- what was written at the start of a list is read there
+pub front-of : (l vs : List ℕ) (n : ℕ) → length vs ≡ n → n ≤ length l → take n (sets l 0 vs) ≡ vs
+front-of l vs n e h = ap (take n) (sets-eq vs l 0 (omega arith)) ∙ take-at vs _ n e

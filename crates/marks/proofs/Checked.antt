@@ -58,3 +58,13 @@ good-from i (m ∷ ms) h k l = go (isMark m) refl k l (good-from (suc i) ms)
 
 pub good-marks : (marks : List ℕ) → marksCase marks .applies ≡ false → (k : ℕ) → k < length marks → getD marks k 0 < 2
 good-marks marks h k l = good-from 0 marks (omega (arith, ltb-false (firstBad 0 marks) (length marks) h)) k l
+
+-- and where every mark is 0 or 1 it does not apply
+passed-from : (i : ℕ) (ms : List ℕ) → ((k : ℕ) → k < length ms → getD ms k 0 < 2) → firstBad i ms ≡ i + length ms
+passed-from i [] h = omega arith
+passed-from i (m ∷ ms) h =
+    rw (lt-ltb m 2 (h 0 (omega arith)))
+    (passed-from (suc i) ms (λ k l. h (suc k) (omega arith)) ∙ omega arith)
+
+pub good-passes : (marks : List ℕ) → ((k : ℕ) → k < length marks → getD marks k 0 < 2) → marksCase marks .applies ≡ false
+good-passes marks good = le-ltb (firstBad 0 marks) (length marks) (omega (arith, passed-from 0 marks good))

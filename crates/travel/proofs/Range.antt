@@ -1,8 +1,8 @@
--- What holds of every move list: a record stays among the cells, and an electronic move leaves it in its group. And what concentrate's list holds.
+-- What holds of every move list: a record stays among the cells, and an electronic move leaves it in its group.
 use Prim.Native.Nat.{ℕ, zero, suc, _+_, _-_, _*_, _≤_, _<_}
 use mathlib.Core.Path.{_≡_, refl, sym, ap, ap₂, _∙_}
 use mathlib.Core.List.{List, [], _∷_, _++_}
-use lib.ListN.{take, getD, length, length-append, length-replicate}
+use lib.ListN.{take, getD}
 use lib.Seq.{take-suc}
 use lib.Arith.{digits-div, digits-lt}
 use native.Mathlib.Nat.{div-add-mod', mod-lt, mod-eq-of-lt, div-lt-iff-lt-mul, mul-pos, zero-add, add-suc, suc-add}
@@ -14,6 +14,7 @@ use Rattle.array.specs.declared.moves.Move.the-variants.{Swap, Electronic}
 use Rattle.array.specs.Cells.{cells, cell, place, group, partner}
 use Rattle.travel.proofs.Listed.{swapsOf, turn-step, turn-swaps}
 use Rattle.lists.specs.Lists.{concentrateRuns}
+use Rattle.lists.proofs.Counts.{concentrate-length}
 use Rattle.travel.specs.Travel.{concentrateMoves, toward, heading, travel, stands}
 use Rattle.travel.specs.Turns.{turnIn}
 use Rattle.travel.proofs.Walk.{seat, Heads, seat<, start, right, left, up, down}
@@ -55,9 +56,6 @@ module _ (s : ℕ) (pos : 1 ≤ s) where
   pub stands-in-range : (k r i : ℕ) → r < cells s → i < cells s → stands s k r i < cells s
   stands-in-range k r i l h = in-range 0 r (take k (concentrateMoves s)) i l h
 
-pub length-moves : (s : ℕ) → length (concentrateMoves s) ≡ 7 * (s - 1) + 2
-length-moves s = simp (length-append, length-replicate) (omega arith)
-
 -- one move more
 travel-append : (s swaps r : ℕ) (xs ys : List Move) (i : ℕ) → travel s swaps r (xs ++ ys) i ≡ travel s (swapsOf xs + swaps) r ys (travel s swaps r xs i)
 travel-append s swaps r [] ys i = rw zero-add
@@ -68,6 +66,6 @@ travel-append s swaps r (Electronic w ∷ xs) ys i = travel-append s swaps r xs 
 pub stands-suc : (s k r i : ℕ) → k < 7 * (s - 1) + 2 →
     stands s (suc k) r i ≡ travel s (turnIn (concentrateRuns s) 0 k .swaps) r (turnIn (concentrateRuns s) 0 k .step ∷ []) (stands s k r i)
 stands-suc s k r i h =
-    ap (λ (ms : List Move). travel s 0 r ms i) (take-suc (concentrateMoves s) k Swap (rw (length-moves s) h))
+    ap (λ (ms : List Move). travel s 0 r ms i) (take-suc (concentrateMoves s) k Swap (rw (concentrate-length s) h))
     ∙ travel-append s 0 r (take k (concentrateMoves s)) (getD (concentrateMoves s) k Swap ∷ []) i
     ∙ ap₂ (λ (m : Move) (swaps : ℕ). travel s swaps r (m ∷ []) (stands s k r i)) (turn-step (concentrateRuns s) 0 k) (turn-swaps (concentrateRuns s) 0 k)

@@ -1,0 +1,13 @@
+-- `answers::lane_case` meets its contract: the length is that of the board, or the case applies.
+use borrow.Author.Needs.{needs}
+use Rattle.answers.proofs.lane_case.Statement.{statement}
+use Rattle.answers.proofs.lane_case.Tie as tie
+
+is-cells-requires : tie.Need-is-cells-requires
+is-cells-requires c κs = search needs
+
+returns : tie.Need-returns
+returns c = rw (c .is-cells .ensures)
+
+pub lane-case-spec : {M : Type 1} → statement M
+lane-case-spec = tie.close (tie.spec is-cells-requires returns)
