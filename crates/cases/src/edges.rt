@@ -1,10 +1,10 @@
 // Side 8: all cells marked; the sides, distances and cuts at the edge of what is accepted.
 use crate::lines;
 use crate::runs;
-use array::answers::Answer;
-use array::shifts::Axis;
-use array::shifts::Edge;
+use answers::Answer;
 use ranking::rank;
+use shifts::Axis;
+use shifts::Edge;
 
 // A line of an edge: what is called, its argument and the answer.
 fn side_line(name: &[u8], side: usize, answer: Answer) {

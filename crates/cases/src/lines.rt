@@ -1,7 +1,7 @@
 // Lines of the output: a name, and values behind it, parted by tabs.
-use array::answers::Answer;
-use array::shifts::distance_of;
+use answers::Answer;
 use libc::STDOUT_FILENO;
+use shifts::distance_of;
 
 pub fn text(name: &[u8]) {
     io::write_all(STDOUT_FILENO, name);

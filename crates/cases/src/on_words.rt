@@ -1,8 +1,8 @@
 // The starred cases of the operations on words, of side 2.
 use crate::lines;
-use array::answers::Answer;
-use array::shifts::Axis;
-use array::shifts::Edge;
+use answers::Answer;
+use shifts::Axis;
+use shifts::Edge;
 
 const WRAPPING: [u32; 16] = [4294967295, 2, 0, 0, 0, 0, 0, 0, 0, 0, 0, 0, 0, 0, 0, 0];
 

@@ -1,5 +1,5 @@
 // Concentrate and distribute by one call each.
-use array::answers::Answer;
+use answers::Answer;
 use records::entries;
 
 // The first moves, up to a cut, of concentrate, or of distribute, which goes back.

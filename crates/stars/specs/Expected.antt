@@ -2,7 +2,7 @@
 use Prim.Native.Nat.{ℕ}
 use mathlib.Core.List.{List, [], _∷_}
 use lib.ListN.{replicate}
-use Rattle.array.specs.Answers.{accepted}
+use Rattle.answers.specs.Answers.{accepted}
 use Rattle.stars.specs.Rows.{Lanes, Row, wordsOnly}
 
 -- 0 in every cell of side 2

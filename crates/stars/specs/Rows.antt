@@ -4,13 +4,13 @@ use mathlib.Core.Bool.{Bool, true, false}
 use mathlib.Core.List.{List, [], _∷_, map}
 use lib.ListN.{length}
 use Rattle.laws.specs.Tables.{entries}
-use Rattle.array.specs.declared.answers.Answer.{Answer}
-use Rattle.array.specs.declared.moves.Run.{Run}
+use Rattle.answers.specs.declared.Answer.{Answer}
+use Rattle.logs.specs.declared.Run.{Run}
 use Rattle.array.specs.Cells.{cells}
-use Rattle.array.specs.Moves.{moves, codes as codesOf}
-use Rattle.array.specs.Lists.{dataSumRuns, prefixSumRuns}
-use Rattle.array.specs.Shifts.{distanceOf, shiftRuns}
-use Rattle.array.specs.Answers.{verdict, acceptedBy}
+use Rattle.logs.specs.Runs.{moves, codes as codesOf}
+use Rattle.lists.specs.Lists.{dataSumRuns, prefixSumRuns}
+use Rattle.shifts.specs.Shifts.{distanceOf, shiftRuns}
+use Rattle.answers.specs.Answers.{verdict, acceptedBy}
 use Rattle.words.specs.Machine.{load, unload, made, runsOf as programRuns}
 use Rattle.words.specs.Programs.{front, prefixSum, prefixed, dataSum, shift, shiftedBy}
 use Rattle.words.specs.Results.{dataSumWords, prefixSumWords, shiftWords}
