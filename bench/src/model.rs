@@ -6,6 +6,7 @@
 
 pub mod answers;
 pub mod board;
+pub mod cases;
 pub mod job;
 pub mod moves;
 pub mod records;

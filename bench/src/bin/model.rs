@@ -6,6 +6,8 @@
 //! `cut<TAB>cell<TAB>slot<TAB>word<TAB>aim`, rising; slot 0 is the front, 1 the spare.
 //! `model back < JOB` prints the same of distribute, its records aimed at the cells that the job marks.
 //!
+//! `model cases` prints the bench cases, as told at the top of `src/model/cases.rs`.
+//!
 //! `model words` prints the operations on words, over the frames of sides 1 to 4 named below. For each run three lines:
 //!
 //!     run<TAB>side<TAB>frame<TAB>operation<TAB>argument<TAB>electronic<TAB>swaps
@@ -18,6 +20,7 @@
 
 use otis_bench::model::answers::Answer;
 use otis_bench::model::board::Board;
+use otis_bench::model::cases;
 use otis_bench::model::job;
 use otis_bench::model::moves::{Edge, Line};
 use otis_bench::model::records::Operation;
@@ -31,6 +34,7 @@ fn main() -> ExitCode {
         "job" => job::printed(&standard_input()),
         "cuts" => job::cuts_printed(Operation::Concentrate, &standard_input()),
         "back" => job::cuts_printed(Operation::Distribute, &standard_input()),
+        "cases" => cases::printed(),
         "words" => all_words(),
         _ => return usage(),
     };
@@ -41,7 +45,7 @@ fn main() -> ExitCode {
 }
 
 fn usage() -> ExitCode {
-    eprintln!("usage: model job|cuts|back < JOB, or model words");
+    eprintln!("usage: model job|cuts|back < JOB, or model cases|words");
     ExitCode::from(2)
 }
 

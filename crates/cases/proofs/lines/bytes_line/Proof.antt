@@ -1,0 +1,59 @@
+-- `cases::lines::bytes_line` is safe and ends: byte after byte.
+use Prim.Native.Nat.{_≤_, _-_}
+use lib.ListN.{length}
+use borrow.Author.Needs.{needs}
+use Rattle.cases.proofs.lines.bytes_line.Statement.{statement}
+use Rattle.cases.proofs.lines.bytes_line.Tie as tie
+
+abbrev Inv-loop : tie.InvT-loop
+Inv-loop name bytes i₀ i = i ≤ length bytes
+
+abbrev μ-loop : tie.MeasureT-loop
+μ-loop name bytes i₀ i = length bytes - i
+
+text-requires : tie.Need-text-requires Inv-loop μ-loop
+text-requires c κs = search needs
+
+loop-holds : tie.Need-loop-holds Inv-loop μ-loop
+loop-holds c = search needs
+
+shared-slice-read-wide-byte : tie.Need-shared-slice-read-wide-byte Inv-loop μ-loop
+shared-slice-read-wide-byte c = search needs
+
+wide-byte-requires : tie.Need-wide-byte-requires Inv-loop μ-loop
+wide-byte-requires c κs = search needs
+
+value-requires : tie.Need-value-requires Inv-loop μ-loop
+value-requires c κs = search needs
+
+add-i : tie.Need-add-i Inv-loop μ-loop
+add-i c = search needs
+
+loop-less : tie.Need-loop-less Inv-loop μ-loop
+loop-less c = search needs
+
+loop-again : tie.Need-loop-again Inv-loop μ-loop
+loop-again c = search needs
+
+end-requires : tie.Need-end-requires Inv-loop μ-loop
+end-requires c κs = search needs
+
+returns : tie.Need-returns Inv-loop μ-loop
+returns c = search needs
+
+pub bytes-line-spec : {M : Type 1} → statement M
+bytes-line-spec =
+    tie.close
+    (tie.spec
+    Inv-loop
+    μ-loop
+    text-requires
+    loop-holds
+    shared-slice-read-wide-byte
+    wide-byte-requires
+    value-requires
+    add-i
+    loop-less
+    loop-again
+    end-requires
+    returns)

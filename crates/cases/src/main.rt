@@ -1,0 +1,15 @@
+// Runs the bench cases and prints what the entries answer and leave, a name and its values on each line.
+mod edges;
+mod lines;
+mod on_records;
+mod on_words;
+mod runs;
+
+fn main() {
+    on_records::starred();
+    on_words::starred();
+    edges::all_marked();
+    edges::sides();
+    edges::distances();
+    edges::cuts();
+}

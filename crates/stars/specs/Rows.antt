@@ -1,0 +1,116 @@
+-- The row of a bench case, worked out in two ways: by the results that the contracts cite, and by the moves, made one after the other.
+use Prim.Native.Nat.{ℕ}
+use mathlib.Core.Bool.{Bool, true, false}
+use mathlib.Core.List.{List, [], _∷_, map}
+use lib.ListN.{length}
+use Rattle.laws.specs.Tables.{entries}
+use Rattle.answers.specs.declared.Answer.{Answer}
+use Rattle.logs.specs.declared.Run.{Run}
+use Rattle.array.specs.Cells.{cells}
+use Rattle.logs.specs.Runs.{moves, codes as codesOf}
+use Rattle.lists.specs.Lists.{dataSumRuns, prefixSumRuns}
+use Rattle.shifts.specs.Shifts.{distanceOf, shiftRuns}
+use Rattle.answers.specs.Answers.{verdict, acceptedBy}
+use Rattle.words.specs.Machine.{load, unload, made, runsOf as programRuns}
+use Rattle.words.specs.Programs.{front, prefixSum, prefixed, dataSum, shift, shiftedBy}
+use Rattle.words.specs.Results.{dataSumWords, prefixSumWords, shiftWords}
+use Rattle.words.specs.Entries.{dataSumAnswer, prefixSumAnswer, shiftAnswer}
+use Rattle.mesh.specs.declared.cells.Cell.{Cell}
+use Rattle.mesh.specs.Cells.{joined, cellAt}
+use Rattle.mesh.specs.Mesh.{goesIn, goerOf, stayedOf, arrivalOf, movedOf}
+use Rattle.mover.specs.Runs.{runsOf, after, movedLog}
+use Rattle.course.specs.Showing.{contentOf}
+use Rattle.clearing.specs.Cleared.{kept}
+use Rattle.ranking.specs.Ranks.{ranks}
+use Rattle.records.specs.Cases.{totalMoves}
+use Rattle.records.specs.Records.{markedCell, countIn, recordOf, cellOf, movedCounts}
+use Rattle.records.specs.Entries.{fullCases}
+use Rattle.stars.specs.Cases.{Case, Concentrate, Distribute, PrefixSum, DataSum, Shift}
+
+-- the lanes of a board, cell by cell
+pub record Lanes : Type 0 where
+  pub words : List ℕ
+  pub marks : List ℕ
+  pub aims : List ℕ
+  pub spareWords : List ℕ
+  pub spareMarks : List ℕ
+  pub spareAims : List ℕ
+
+-- the answer; the codes of the moves; how many records each move takes to another cell; the lanes, of concentrate and distribute after
+-- move 1 and at the end, of the others the words at the end
+pub record Row : Type 0 where
+  pub answer : Answer
+  pub codes : List ℕ
+  pub moved : List ℕ
+  pub states : List Lanes
+
+abbrev pub lanesOf : List Cell → Lanes
+lanesOf cs =
+    record {
+      words = map (λ c. c .front .word) cs;
+      marks = map (λ c. c .front .mark) cs;
+      aims = map (λ c. c .front .aim) cs;
+      spareWords = map (λ c. c .spare .word) cs;
+      spareMarks = map (λ c. c .spare .mark) cs;
+      spareAims = map (λ c. c .spare .aim) cs;
+    }
+
+abbrev pub wordsOnly : List ℕ → Lanes
+wordsOnly words = record { words = words; marks = []; aims = []; spareWords = []; spareMarks = []; spareAims = [] }
+
+-- the answer to concentrate, or distribute, with n cells in each spare lane and m entries in each log
+abbrev pub recordsAnswer : Bool → ℕ → (n m : ℕ) → List ℕ → List ℕ → List ℕ → Answer
+recordsAnswer back s n m words marks aims =
+    verdict (fullCases back s (length words) (length marks) (length aims) n n n m m marks aims) (acceptedBy (runsOf back s))
+
+-- the row of concentrate, or distribute, with its moved counts and what the cells hold after k moves
+abbrev pub recordsRow : Bool → ℕ → List ℕ → List ℕ → List ℕ → List ℕ → (ℕ → ℕ → Cell) → Row
+recordsRow back s words marks aims moved T =
+    record {
+      answer = recordsAnswer back s (cells s) (totalMoves s) words marks aims;
+      codes = codesOf (runsOf back s);
+      moved = moved;
+      states = map (λ k. lanesOf (entries (T k) 0 (cells s))) (1 ∷ totalMoves s ∷ []);
+    }
+
+-- the row of an operation on words, with its answer to a log of so many entries, its moves and the words at the end
+abbrev pub wordsRow : (ℕ → Answer) → List Run → List ℕ → Row
+wordsRow answer rs words =
+    record { answer = answer (length (moves rs)); codes = codesOf rs; moved = []; states = wordsOnly words ∷ [] }
+
+-- concentrate, or distribute, by the contracts: every cell holds the records that stand there
+unfoldable pub standing : Bool → ℕ → List ℕ → List ℕ → List ℕ → Row
+unfolding contentOf joined markedCell
+standing back s words marks aims =
+    recordsRow back s words marks aims (movedCounts back s (totalMoves s) marks aims)
+    (λ k. contentOf (countIn s marks) (recordOf back s words marks aims) (cellOf back s marks aims k))
+
+-- the same move by move, from lanes whose unmarked cells were cleared
+unfoldable pub moving : Bool → ℕ → List ℕ → List ℕ → List ℕ → Row
+unfolding after movedOf arrivalOf stayedOf goerOf goesIn joined
+moving back s words marks aims = from (cellAt (kept marks words) marks (kept marks aims) [] [] [])
+  where
+    from : (ℕ → Cell) → Row
+    from T = recordsRow back s words marks aims (movedLog back s (totalMoves s) T) (λ k. after back s k T)
+
+-- by the results that the contracts cite
+abbrev pub resultRow : Case → Row
+resultRow (Concentrate s words marks) = standing false s words marks (ranks s marks)
+resultRow (Distribute s words marks aims) = standing true s words marks aims
+resultRow (PrefixSum s words) = wordsRow (prefixSumAnswer s (length words)) (prefixSumRuns s) (prefixSumWords s words)
+resultRow (DataSum s words) = wordsRow (dataSumAnswer s (length words)) (dataSumRuns s) (dataSumWords s words)
+resultRow (Shift s axis edge k words) =
+    wordsRow (shiftAnswer s axis edge k (length words)) (shiftRuns s axis edge k) (shiftWords s axis edge k words)
+
+-- by the moves, made one after the other
+unfoldable pub movedRow : Case → Row
+unfolding front
+movedRow (Concentrate s words marks) = moving false s words marks (ranks s marks)
+movedRow (Distribute s words marks aims) = moving true s words marks aims
+movedRow (PrefixSum s words) =
+    wordsRow (prefixSumAnswer s (length words)) (programRuns (prefixSum s)) (unload s (prefixed s (load s words)))
+movedRow (DataSum s words) =
+    wordsRow (dataSumAnswer s (length words)) (programRuns (dataSum s)) (unload s (made s (dataSum s) (load s words)))
+movedRow (Shift s axis edge k words) =
+    wordsRow (shiftAnswer s axis edge k (length words)) (programRuns (shift s axis edge (distanceOf k)))
+    (unload s (shiftedBy s axis edge (distanceOf k) (load s words)))

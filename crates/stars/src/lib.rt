@@ -1,0 +1,1 @@
+// The starred bench cases, for the definitions: one table, and no code.
