@@ -116,7 +116,7 @@ fn full(back: bool, side: usize, codes: &mut [u8], moved: &mut [u16]) -> Answer 
     )
 }
 
-pub fn all_marked() {
+pub(crate) fn all_marked() {
     let mut codes = [9u8; 51];
     let mut moved = [9u16; 51];
     lines::case_line(b"side 8, all marked");
@@ -144,7 +144,7 @@ fn on_records(side: usize) {
     side_line(b"distribute cut", side, cut(true, side, 0));
 }
 
-pub fn sides() {
+pub(crate) fn sides() {
     on_words(8);
     on_records(8);
     on_words(9);
@@ -167,7 +167,7 @@ fn shift_edges(name: &[u8], axis: Axis, edge: Edge) {
     distance_line(name, -8, shift(axis, edge, -8));
 }
 
-pub fn distances() {
+pub(crate) fn distances() {
     shift_edges(b"shift mesh row, zero fill", Axis::MeshRow, Edge::ZeroFill);
     shift_edges(b"shift mesh row, circular", Axis::MeshRow, Edge::Circular);
     shift_edges(
@@ -198,7 +198,7 @@ pub fn distances() {
     );
 }
 
-pub fn cuts() {
+pub(crate) fn cuts() {
     cut_line(b"concentrate cut", 51, cut(false, 8, 51));
     cut_line(b"concentrate cut", 52, cut(false, 8, 52));
     cut_line(b"distribute cut", 51, cut(true, 8, 51));

@@ -3,17 +3,17 @@ use answers::Answer;
 use libc::STDOUT_FILENO;
 use shifts::distance_of;
 
-pub fn text(name: &[u8]) {
+pub(crate) fn text(name: &[u8]) {
     io::write_all(STDOUT_FILENO, name);
 }
 
-pub fn value(n: u64) {
+pub(crate) fn value(n: u64) {
     text(b"\t");
     io::print_decimal(STDOUT_FILENO, n);
 }
 
 // A distance, with its sign.
-pub fn distance(k: i32) {
+pub(crate) fn distance(k: i32) {
     let far = distance_of(k);
     if far.back > 0 {
         text(b"\t-");
@@ -23,17 +23,17 @@ pub fn distance(k: i32) {
     }
 }
 
-pub fn end() {
+pub(crate) fn end() {
     text(b"\n");
 }
 
-pub fn case_line(name: &[u8]) {
+pub(crate) fn case_line(name: &[u8]) {
     text(b"case\t");
     text(name);
     end();
 }
 
-pub fn values(answer: Answer) {
+pub(crate) fn values(answer: Answer) {
     value(answer.number as u64);
     value(answer.place as u64);
     value(answer.electronic as u64);
@@ -41,7 +41,7 @@ pub fn values(answer: Answer) {
     end();
 }
 
-pub fn answer_line(answer: Answer) {
+pub(crate) fn answer_line(answer: Answer) {
     text(b"answer");
     values(answer);
 }
@@ -59,7 +59,7 @@ fn wide_byte(byte: u8) -> u64 {
 }
 
 // A line of a lane of words; of aims or of moved counts; of marks or of codes.
-pub fn words_line(name: &[u8], words: &[u32]) {
+pub(crate) fn words_line(name: &[u8], words: &[u32]) {
     text(name);
     let mut i: usize = 0;
     while i < words.len() {
@@ -69,7 +69,7 @@ pub fn words_line(name: &[u8], words: &[u32]) {
     end();
 }
 
-pub fn halves_line(name: &[u8], halves: &[u16]) {
+pub(crate) fn halves_line(name: &[u8], halves: &[u16]) {
     text(name);
     let mut i: usize = 0;
     while i < halves.len() {
@@ -79,7 +79,7 @@ pub fn halves_line(name: &[u8], halves: &[u16]) {
     end();
 }
 
-pub fn bytes_line(name: &[u8], bytes: &[u8]) {
+pub(crate) fn bytes_line(name: &[u8], bytes: &[u8]) {
     text(name);
     let mut i: usize = 0;
     while i < bytes.len() {

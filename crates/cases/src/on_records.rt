@@ -201,7 +201,7 @@ fn concentrated(words: &[u32; 16], marks: &[u8; 16]) {
     two(false, words, marks, &aims);
 }
 
-pub fn starred() {
+pub(crate) fn starred() {
     one_cell();
     lines::case_line(b"side 2, marks at 0, 4, 5");
     concentrated(&HUNDREDS, &[1, 0, 0, 0, 1, 1, 0, 0, 0, 0, 0, 0, 0, 0, 0, 0]);

@@ -53,7 +53,7 @@ fn group_column() {
     show(answer, &codes, &words);
 }
 
-pub fn starred() {
+pub(crate) fn starred() {
     prefix_sum();
     data_sum();
     mesh_row();

@@ -3,7 +3,7 @@ use answers::Answer;
 use records::entries;
 
 // The first moves, up to a cut, of concentrate, or of distribute, which goes back.
-pub fn cut(
+pub(crate) fn cut(
     back: bool,
     side: usize,
     cut: usize,
@@ -40,7 +40,7 @@ pub fn cut(
 }
 
 // All its moves.
-pub fn full(
+pub(crate) fn full(
     back: bool,
     side: usize,
     words: &mut [u32],

@@ -16,7 +16,7 @@ ghost use Rattle.jobs.specs.Filled.{Filled, refusalOf, printedOf};
 ghost use Rattle.jobs.specs.Inside.{Board, Settled, Lanes, lanesText};
 
 // The line of a refused job: nothing where the job is one.
-pub fn refuse(out: &mut [u8; 196608], job: Job) -> usize
+fn refuse(out: &mut [u8; 196608], job: Job) -> usize
     ensures { λ r. ⌜ Filled (now (out .entry)) (refusalOf job) r (now (out .exit)) ⌝ }
 {
     match job {
