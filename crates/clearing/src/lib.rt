@@ -11,60 +11,60 @@ fn mark_at(marks: &[u8], i: usize) -> u8
 }
 
 // Unmarked cells hold 0.
-pub fn keep_words(marks: &[u8], lane: &mut [u32])
-    ensures { λ _. ⌜ now (lane .exit) ≡ kept (now (marks .entry)) (now (lane .entry)) ⌝ }
+pub fn keep_words(marks: &[u8], words: &mut [u32])
+    ensures { λ _. ⌜ now (words .exit) ≡ kept (now (marks .entry)) (now (words .entry)) ⌝ }
 {
     let mut i: usize = 0;
-    while i < lane.len() {
+    while i < words.len() {
         if mark_at(marks, i) != 1 {
-            lane[i] = 0;
+            words[i] = 0;
         }
         i += 1;
     }
 }
 
 // Unmarked cells hold 0.
-pub fn keep_aims(marks: &[u8], lane: &mut [u16])
-    ensures { λ _. ⌜ now (lane .exit) ≡ kept (now (marks .entry)) (now (lane .entry)) ⌝ }
+pub fn keep_aims(marks: &[u8], aims: &mut [u16])
+    ensures { λ _. ⌜ now (aims .exit) ≡ kept (now (marks .entry)) (now (aims .entry)) ⌝ }
 {
     let mut i: usize = 0;
-    while i < lane.len() {
+    while i < aims.len() {
         if mark_at(marks, i) != 1 {
-            lane[i] = 0;
+            aims[i] = 0;
         }
         i += 1;
     }
 }
 
 // Every cell holds 0.
-pub fn zero_words(lane: &mut [u32])
-    ensures { λ _. ⌜ now (lane .exit) ≡ zeros (now (lane .entry)) ⌝ }
+pub fn zero_words(spare_words: &mut [u32])
+    ensures { λ _. ⌜ now («spare_words» .exit) ≡ zeros (now («spare_words» .entry)) ⌝ }
 {
     let mut i: usize = 0;
-    while i < lane.len() {
-        lane[i] = 0;
+    while i < spare_words.len() {
+        spare_words[i] = 0;
         i += 1;
     }
 }
 
 // Every cell holds 0.
-pub fn zero_marks(lane: &mut [u8])
-    ensures { λ _. ⌜ now (lane .exit) ≡ zeros (now (lane .entry)) ⌝ }
+pub fn zero_marks(spare_marks: &mut [u8])
+    ensures { λ _. ⌜ now («spare_marks» .exit) ≡ zeros (now («spare_marks» .entry)) ⌝ }
 {
     let mut i: usize = 0;
-    while i < lane.len() {
-        lane[i] = 0;
+    while i < spare_marks.len() {
+        spare_marks[i] = 0;
         i += 1;
     }
 }
 
 // Every cell holds 0.
-pub fn zero_aims(lane: &mut [u16])
-    ensures { λ _. ⌜ now (lane .exit) ≡ zeros (now (lane .entry)) ⌝ }
+pub fn zero_aims(spare_aims: &mut [u16])
+    ensures { λ _. ⌜ now («spare_aims» .exit) ≡ zeros (now («spare_aims» .entry)) ⌝ }
 {
     let mut i: usize = 0;
-    while i < lane.len() {
-        lane[i] = 0;
+    while i < spare_aims.len() {
+        spare_aims[i] = 0;
         i += 1;
     }
 }

@@ -1,5 +1,7 @@
 -- `answers::checked` meets its contract: the three cases, one around the other.
+use mathlib.Core.Path.{refl, ap₂, _∙_}
 use borrow.Author.Needs.{needs}
+use Rattle.answers.specs.Answers.{refusing}
 use Rattle.answers.proofs.checked.Statement.{statement}
 use Rattle.answers.proofs.checked.Tie as tie
 
@@ -22,7 +24,12 @@ refusing-requires-3 : tie.Need-refusing-requires-3
 refusing-requires-3 c κs = search needs
 
 returns : tie.Need-returns
-returns c = rw (c .before .side-case .ensures, c .before .before .refusing2 .ensures, c .before .before .before .lane-case .ensures, c .before .before .before .before .refusing .ensures, c .before .before .before .before .before .log-case .ensures) at (c .refusing3 .ensures)
+returns c =
+    c .refusing3 .ensures
+    ∙ ap₂ refusing (c .before .side-case .ensures)
+    (c .before .before .refusing2 .ensures
+    ∙ ap₂ refusing (c .before .before .before .lane-case .ensures)
+    (c .before .before .before .before .refusing .ensures ∙ ap₂ refusing (c .before .before .before .before .before .log-case .ensures) refl))
 
 pub checked-spec : {M : Type 1} → statement M
 checked-spec =

@@ -1,3 +1,4 @@
+-- `answertext::added` meets its contract: a line more adds its own counts.
 use Rattle.answertext.proofs.Adding.{added-none, added-line}
 use borrow.Author.Needs.{needs}
 use Rattle.answertext.proofs.added.Statement.{statement}

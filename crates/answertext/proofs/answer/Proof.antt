@@ -1,3 +1,4 @@
+-- `answertext::answer` meets its contract: the heading, the moves, the totals, the records.
 use Rattle.answertext.proofs.Lines.{answer-written}
 use borrow.Author.Needs.{needs}
 use Rattle.answertext.proofs.answer.Statement.{statement}

@@ -1,3 +1,4 @@
+-- `answertext::put_all` meets its contract: the totals of the log, field after field.
 use Rattle.answertext.proofs.Lines.{all-written}
 use borrow.Author.Needs.{needs}
 use Rattle.answertext.proofs.put_all.Statement.{statement}

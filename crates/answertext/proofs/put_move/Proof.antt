@@ -1,3 +1,4 @@
+-- `answertext::put_move` meets its contract: the number, the move and its count.
 use Rattle.answertext.proofs.Lines.{no-move-written, move-written}
 use borrow.Author.Needs.{needs}
 use Rattle.answertext.proofs.put_move.Statement.{statement}

@@ -1,3 +1,4 @@
+-- `answertext::put_record` meets its contract: the cell and its word.
 use Rattle.answertext.proofs.Lines.{record-written}
 use borrow.Author.Needs.{needs}
 use Rattle.answertext.proofs.put_record.Statement.{statement}

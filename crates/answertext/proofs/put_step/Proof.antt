@@ -1,3 +1,4 @@
+-- `answertext::put_step` meets its contract: by the kind of the move and its way.
 use Rattle.answertext.proofs.Lines.{step-swap, step-right, step-left, step-up, step-down}
 use borrow.Author.Needs.{needs}
 use Rattle.answertext.proofs.put_step.Statement.{statement}

@@ -1,3 +1,4 @@
+-- `answertext::refusal` meets its contract: the number and the place of the refusal.
 use Rattle.answertext.proofs.Lines.{refusal-written}
 use borrow.Author.Needs.{needs}
 use Rattle.answertext.proofs.refusal.Statement.{statement}

@@ -1,3 +1,4 @@
+-- `answertext::sum_up` meets its contract: the lines of the log are added one after the other.
 use Rattle.answertext.proofs.Adding.{Totalling, totals-begin, totals-more, totals-end}
 use Rattle.answertext.specs.Log.{lineOf}
 use Prim.Native.Nat.{_-_}

@@ -18,16 +18,16 @@ abbrev μ-loop : tie.MeasureT-loop
 μ-loop marks lane₀ i₀ lane i = length lane₀ - i
 
 loop-holds : tie.Need-loop-holds Inv-loop μ-loop
-loop-holds c = (omega arith, rewriting-start (keptAt (c .before .before .args .marks .now) (c .before .before .args .lane .now)) 0 (c .before .before .args .lane .now))
+loop-holds c = (omega arith, rewriting-start (keptAt (c .before .before .args .marks .now) (c .before .before .args .words .now)) 0 (c .before .before .args .words .now))
 
 mark-at-requires : tie.Need-mark-at-requires Inv-loop μ-loop
 mark-at-requires c κs = search needs
 
-mul-lane : tie.Need-mul-lane Inv-loop μ-loop
-mul-lane c = search needs
+mul-words : tie.Need-mul-words Inv-loop μ-loop
+mul-words c = search needs
 
-slice-write-lane : tie.Need-slice-write-lane Inv-loop μ-loop
-slice-write-lane c = omega (arith, c .before .before .loop-test .taken)
+slice-write-words : tie.Need-slice-write-words Inv-loop μ-loop
+slice-write-words c = omega (arith, c .before .before .loop-test .taken)
 
 add-i : tie.Need-add-i Inv-loop μ-loop
 add-i c = omega (arith, c .before .before .loop-test .taken, c .before .before .before .loop .inv .1 .long)
@@ -39,11 +39,11 @@ loop-again : tie.Need-loop-again Inv-loop μ-loop
 loop-again c =
     let s = c .before .before .before .before .before .before in
     let l = c .before .before .before .loop in
-    let f = keptAt (s .args .marks .now) (s .args .lane .now) in (
+    let f = keptAt (s .args .marks .now) (s .args .words .now) in (
       omega (arith, c .before .before .loop-test .taken, l .inv .1 .long),
       ⊎-elim
-          (λ w. rw (w .1) (rewriting-store f 0 (s .args .lane .now) 0 (c .before .before .loop-test .taken) (sym (rw (ne-eqb _ _ (λ e. w .0 .taken (c .before .mark-at .ensures ∙ e))))) (l .inv .1)))
-          (λ w. rw (w .1) (rewriting-keep f 0 (s .args .lane .now) (sym (rw (eq-eqb _ _ (sym (c .before .mark-at .ensures) ∙ w .0 .left)))) (l .inv .1)))
+          (λ w. rw (w .1) (rewriting-store f 0 (s .args .words .now) 0 (c .before .before .loop-test .taken) (sym (rw (ne-eqb _ _ (λ e. w .0 .taken (c .before .mark-at .ensures ∙ e))))) (l .inv .1)))
+          (λ w. rw (w .1) (rewriting-keep f 0 (s .args .words .now) (sym (rw (eq-eqb _ _ (sym (c .before .mark-at .ensures) ∙ w .0 .left)))) (l .inv .1)))
           (c .if1 .came),
     )
 
@@ -51,7 +51,7 @@ same-length : tie.Need-same-length Inv-loop μ-loop
 same-length c = c .before .loop .inv .1 .long
 
 returns : tie.Need-returns Inv-loop μ-loop
-returns c = rewriting-end (keptAt (c .before .before .before .before .args .marks .now) (c .before .before .before .before .args .lane .now)) 0 (c .before .before .before .before .args .lane .now) (c .loop-test .left) (c .before .loop .inv .1)
+returns c = rewriting-end (keptAt (c .before .before .before .before .args .marks .now) (c .before .before .before .before .args .words .now)) 0 (c .before .before .before .before .args .words .now) (c .loop-test .left) (c .before .loop .inv .1)
 
 pub keep-words-spec : {M : Type 1} → statement M
 keep-words-spec =
@@ -61,8 +61,8 @@ keep-words-spec =
     μ-loop
     loop-holds
     mark-at-requires
-    mul-lane
-    slice-write-lane
+    mul-words
+    slice-write-words
     add-i
     loop-less
     loop-again

@@ -15,13 +15,13 @@ abbrev μ-loop : tie.MeasureT-loop
 μ-loop lane₀ i₀ lane i = length lane - i
 
 loop-holds : tie.Need-loop-holds Inv-loop μ-loop
-loop-holds c = (omega arith, rewriting-start (λ (k : ℕ). 0) 0 (c .args .lane .now))
+loop-holds c = (omega arith, rewriting-start (λ (k : ℕ). 0) 0 (c .args .spare-aims .now))
 
-mul-lane : tie.Need-mul-lane Inv-loop μ-loop
-mul-lane c = search needs
+mul-spare-aims : tie.Need-mul-spare-aims Inv-loop μ-loop
+mul-spare-aims c = search needs
 
-slice-write-lane : tie.Need-slice-write-lane Inv-loop μ-loop
-slice-write-lane c = search needs
+slice-write-spare-aims : tie.Need-slice-write-spare-aims Inv-loop μ-loop
+slice-write-spare-aims c = search needs
 
 add-i : tie.Need-add-i Inv-loop μ-loop
 add-i c = search needs
@@ -30,13 +30,13 @@ loop-less : tie.Need-loop-less Inv-loop μ-loop
 loop-less c = simp length-set (omega arith)
 
 loop-again : tie.Need-loop-again Inv-loop μ-loop
-loop-again c = (simp length-set (omega arith), rewriting-store (λ (k : ℕ). 0) 0 (c .before .before .args .lane .now) 0 (c .loop-test .taken) refl (c .before .loop .inv .1))
+loop-again c = (simp length-set (omega arith), rewriting-store (λ (k : ℕ). 0) 0 (c .before .before .args .spare-aims .now) 0 (c .loop-test .taken) refl (c .before .loop .inv .1))
 
 same-length : tie.Need-same-length Inv-loop μ-loop
 same-length c = c .before .loop .inv .1 .long
 
 returns : tie.Need-returns Inv-loop μ-loop
-returns c = rewriting-end (λ (k : ℕ). 0) 0 (c .before .before .args .lane .now) (c .loop-test .left) (c .before .loop .inv .1)
+returns c = rewriting-end (λ (k : ℕ). 0) 0 (c .before .before .args .spare-aims .now) (c .loop-test .left) (c .before .loop .inv .1)
 
 pub zero-aims-spec : {M : Type 1} → statement M
 zero-aims-spec =
@@ -45,8 +45,8 @@ zero-aims-spec =
     Inv-loop
     μ-loop
     loop-holds
-    mul-lane
-    slice-write-lane
+    mul-spare-aims
+    slice-write-spare-aims
     add-i
     loop-less
     loop-again

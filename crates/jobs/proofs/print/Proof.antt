@@ -1,3 +1,4 @@
+-- `jobs::print` meets its contract: the moves of the list, and the records that are marked.
 use native.Mathlib.Omega.{arith}
 use Rattle.texts.proofs.Reading.{part-length}
 use Rattle.jobs.proofs.Filling.{printed}

@@ -1,3 +1,4 @@
+-- `jobs::refuse` meets its contract: the line of a refusal, or nothing.
 use Rattle.jobs.proofs.Filling.{refused-line, no-line}
 use borrow.Author.Needs.{needs}
 use Rattle.jobs.proofs.refuse.Statement.{statement}

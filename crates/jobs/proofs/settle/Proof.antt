@@ -1,11 +1,9 @@
+-- `jobs::settle` meets its contract: concentrate behind rank.
 use Rattle.jobs.proofs.Settled.{settled}
 use borrow.Author.Needs.{needs}
 use Rattle.jobs.proofs.settle.Statement.{statement}
 use Rattle.jobs.proofs.settle.Tie as tie
 use Rattle.jobs.proofs.settle.Reads as reads
-use Rattle.jobs.proofs.settle.Lts as lts
-use Rattle.ranking.proofs.rank.Reads as rank-reads
-use Rattle.records.proofs.entries.concentrate.Reads as concentrate-reads
 
 rank-requires : tie.Need-rank-requires
 rank-requires c κs = search needs

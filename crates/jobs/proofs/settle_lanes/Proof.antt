@@ -1,3 +1,4 @@
+-- `jobs::settle_lanes` meets its contract: lanes of its own are as long as the board.
 use mathlib.Core.Path.{_∙_}
 use lib.Seq.{length-take-le}
 use Rattle.texts.proofs.Reading.{part-length}
@@ -6,8 +7,6 @@ use borrow.Author.Needs.{needs}
 use Rattle.jobs.proofs.settle_lanes.Statement.{statement}
 use Rattle.jobs.proofs.settle_lanes.Tie as tie
 use Rattle.jobs.proofs.settle_lanes.Reads as reads
-use Rattle.jobs.proofs.settle_lanes.Lts as lts
-use Rattle.jobs.proofs.settle.Reads as settle-reads
 
 array-borrow-prefix-aims : tie.Need-array-borrow-prefix-aims
 array-borrow-prefix-aims c = lane-room (c .before .before .before .before .before .before .args .side) (c .before .before .before .before .before .before .pre .0) (c .before .before .before .before .before .before .pre .1 .0 .0)

@@ -1,3 +1,4 @@
+-- `jobs::solve` meets its contract: what concentrate leaves is what is printed.
 use native.Mathlib.Omega.{arith}
 use Rattle.array.proofs.Board.{side-known}
 use Rattle.jobs.proofs.Answered.{solve-filled}
@@ -5,9 +6,6 @@ use borrow.Author.Needs.{needs}
 use Rattle.jobs.proofs.solve.Statement.{statement}
 use Rattle.jobs.proofs.solve.Tie as tie
 use Rattle.jobs.proofs.solve.Reads as reads
-use Rattle.jobs.proofs.solve.Lts as lts
-use Rattle.jobs.proofs.print.Reads as print-reads
-use Rattle.jobs.proofs.settle_lanes.Reads as settle-lanes-reads
 
 slice-aggregate-settle-lanes : tie.Need-slice-aggregate-settle-lanes
 slice-aggregate-settle-lanes c = search needs

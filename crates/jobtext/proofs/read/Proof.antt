@@ -1,3 +1,4 @@
+-- `jobtext::read` meets its contract: the first line, the side, and the lines after it.
 use Rattle.jobtext.proofs.Whole.{side-small, read-too-long, read-unended, read-no-side, read-bad-side, read-ready, read-refused}
 use Rattle.texts.proofs.Reading.{part-length}
 use borrow.Author.Needs.{needs}

@@ -1,3 +1,4 @@
+-- `jobtext::read_cells` meets its contract: line after line, each a marked cell.
 use Rattle.jobtext.proofs.Cells.{square-fits, cells-fit, cell-inside, cell-scaled, cell-counted, Cells, cells-begin, cells-end, cells-unended, cells-malformed, cells-next}
 use Rattle.texts.proofs.Reading.{part-length}
 use lib.ListN.{length}

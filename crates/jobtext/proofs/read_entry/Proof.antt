@@ -1,3 +1,4 @@
+-- `jobtext::read_entry` meets its contract: two fields, and an index in its order and on the board.
 use Rattle.jobtext.proofs.Entries.{entry-no-tab, entry-no-index, entry-no-word, entry-low, entry-high, entry-cell}
 use Rattle.texts.proofs.Reading.{part-length}
 use borrow.Author.Needs.{needs}

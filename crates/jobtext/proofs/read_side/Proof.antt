@@ -1,3 +1,4 @@
+-- `jobtext::read_side` meets its contract: the word and the number of the first line.
 use Rattle.jobtext.proofs.Entries.{side-no-tab, side-named, side-unnamed}
 use Rattle.texts.proofs.Reading.{part-length}
 use borrow.Author.Needs.{needs}

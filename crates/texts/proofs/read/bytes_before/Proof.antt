@@ -1,3 +1,4 @@
+-- `texts::read::bytes_before` meets its contract: byte after byte is passed until the one is found.
 use Prim.Native.Nat.{_-_}
 use native.Mathlib.Omega.{arith}
 use lib.ListN.{length}

@@ -1,3 +1,4 @@
+-- `texts::read::digits` meets its contract: digit after digit, as long as the number is small enough.
 use borrow.Author.Needs.{needs}
 use native.Mathlib.Omega.{arith}
 use Prim.Native.Nat.{_-_}

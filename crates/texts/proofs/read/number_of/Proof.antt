@@ -1,5 +1,7 @@
+-- `texts::read::number_of` meets its contract: at least one digit, and a 0 stands first only alone.
 use mathlib.Core.Path.{_∙_}
 use mathlib.Core.Logic.{⊎-elim}
+use native.Mathlib.Omega.{arith}
 use Rattle.texts.proofs.Reading.{number-none, number-zero, number-digits}
 use borrow.Author.Needs.{needs}
 use Rattle.texts.proofs.read.number_of.Statement.{statement}
@@ -12,7 +14,7 @@ shared-slice-read-if2 : tie.Need-shared-slice-read-if2
 shared-slice-read-if2 c = search needs
 
 returns-2 : tie.Need-returns-2
-returns-2 c = search number-zero
+returns-2 c = number-zero _ (c .before .if2 .taken) (omega (arith, c .if3 .taken))
 
 digits-requires : tie.Need-digits-requires
 digits-requires c κs = search needs

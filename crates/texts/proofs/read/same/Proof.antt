@@ -1,3 +1,4 @@
+-- `texts::read::same` meets its contract: byte after byte, of two texts of one length.
 use borrow.Author.Needs.{needs}
 use Prim.Native.Nat.{_-_}
 use lib.ListN.{length}

@@ -1,3 +1,4 @@
+-- `texts::write::put_digits` meets its contract: the digits before the last, and the last.
 use borrow.Author.Needs.{needs}
 use mathlib.Core.Path.{_∙_}
 use Rattle.texts.proofs.Digits.{digits-none, digits-one, digits-more}

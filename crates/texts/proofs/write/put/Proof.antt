@@ -1,3 +1,4 @@
+-- `texts::write::put` meets its contract: byte after byte.
 use Rattle.texts.proofs.Putting.{Putting, put-begin, put-next, put-end}
 use lib.ListN.{length}
 use Prim.Native.Nat.{_-_}

@@ -1,3 +1,4 @@
+-- `texts::write::put_byte` meets its contract: a byte where the buffer has room.
 use Rattle.texts.proofs.Putting.{no-byte}
 use borrow.Author.Needs.{needs}
 use Rattle.texts.proofs.write.put_byte.Statement.{statement}

@@ -1,3 +1,4 @@
+-- `texts::write::put_field` meets its contract: a number of 64 bits has at most twenty digits.
 use Rattle.texts.proofs.Digits.{field-written}
 use borrow.Author.Needs.{needs}
 use Rattle.texts.proofs.write.put_field.Statement.{statement}
