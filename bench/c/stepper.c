@@ -158,8 +158,10 @@ static void rank_by_moves(size_t side, const uint8_t *restrict marks, uint16_t *
     sum_groups(side, cells, &sums);
     sum_over_groups(side, cells, &sums);
     spread_sums(side, cells, &sums);
-    for (size_t cell = 0; cell < cells; cell++)
-        aims[cell] = (uint16_t)(marks[cell] ? sums.r[cell] - 1 : 0);
+    for (size_t cell = 0; cell < cells; cell++) {
+        uint16_t rank = (uint16_t)(sums.r[cell] - 1);
+        aims[cell] = marks[cell] ? rank : 0;
+    }
 }
 
 /* Judges what is lent to rank, ranks, and writes the list. */

@@ -191,7 +191,11 @@ fn compare_case(name: &str, output: &mut BufReader<ChildStdout>, case: &Case, ta
         return tally.pass();
     }
     tally.fail(|| {
-        let told = if read.is_ok() { call.told(&got) } else { "NO ANSWER".to_string() };
+        let told = if read.is_ok() {
+            call.told(&got)
+        } else {
+            "NO ANSWER: the server ended in this case or in one soon after".to_string()
+        };
         let (function, side, marks) = (call.function, call.side, call.told_marks());
         format!("{name} {function:?}, {what}, side {side}, marks {marks}\n  {told}")
     });
