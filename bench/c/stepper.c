@@ -1,5 +1,6 @@
 /* A plain C stepper of rank, concentrate and distribute: the same lanes and the same moves as the archive, written for
- * speed in the ordinary way and proved by nobody. The differential tests hold it to the second model. */
+ * speed in the ordinary way and proved by nobody; and a rank that makes no moves, beside which the moves' cost is seen. The
+ * differential tests hold both to the second model. */
 #include "stepper.h"
 
 #include <stdbool.h>
@@ -42,80 +43,130 @@ static struct otis_answer judge_marks(const uint8_t *marks, size_t cells)
 
 /* ---- rank */
 
-/* What the cells of the last column keep while the sums are on their way: one number for each row of each group. */
-struct row_sums {
-    uint16_t upto[MOST_PLACES][MOST_SIDE];   /* the rows of the group down to this one */
-    uint16_t before[MOST_PLACES][MOST_SIDE]; /* all marked cells before this row */
+/* The lanes of the prefix sum, named as in its nine steps. They are lanes of words, as on the board. */
+struct sums {
+    uint32_t r[OTIS_MOST_CELLS]; /* the marked cells of the row, up to this one */
+    uint32_t c[OTIS_MOST_CELLS]; /* r down the column */
+    uint32_t a[OTIS_MOST_CELLS]; /* what came by light */
+    uint32_t y[OTIS_MOST_CELLS]; /* a along the row, up to this cell */
+    uint32_t z[OTIS_MOST_CELLS]; /* y down the column; later what is before the cell */
 };
 
-/* Move k of right: column k takes the sum of column k - 1. */
-static void sum_rows(size_t side, size_t rows, uint16_t *sums)
+/* Right: in each move the next column of every group adds what it receives. */
+static void add_right(size_t side, size_t cells, uint32_t *lane)
 {
     for (size_t column = 1; column < side; column++)
-        for (size_t row = 0; row < rows; row++)
-            sums[row * side + column] += sums[row * side + column - 1];
+        for (size_t cell = column; cell < cells; cell += side)
+            lane[cell] += lane[cell - 1];
 }
 
-/* Down: in the last column each row takes what stands above it. */
-static void sum_down(size_t side, const uint16_t *sums, uint16_t upto[])
+/* Down: in each move the next row of every group adds what it receives. */
+static void add_down(size_t side, size_t cells, uint32_t *lane)
 {
-    upto[0] = sums[side - 1];
     for (size_t row = 1; row < side; row++)
-        upto[row] = upto[row - 1] + sums[row * side + side - 1];
+        for (size_t start = row * side; start < cells; start += side * side)
+            for (size_t cell = start; cell < start + side; cell++)
+                lane[cell] += lane[cell - side];
 }
 
-/* Between the swaps the last group holds every group's sum, and makes of each the number of marked cells before its group. */
-static void sum_groups(size_t side, uint16_t totals[])
+/* Left: in each move the next column of every group takes what it receives. */
+static void copy_left(size_t side, size_t cells, uint32_t *lane)
 {
-    uint16_t own[MOST_PLACES];
-    uint16_t upto[MOST_SIDE];
-    memcpy(own, totals, sizeof own);
-    sum_rows(side, side, totals);
-    sum_down(side, totals, upto);
-    for (size_t row = 0; row < side; row++) {
-        uint16_t above = upto[row] - totals[row * side + side - 1];
-        for (size_t column = side; column-- > 0;)
-            totals[row * side + column] += above - own[row * side + column];
-    }
+    for (size_t column = side - 1; column-- > 0;)
+        for (size_t cell = column; cell < cells; cell += side)
+            lane[cell] = lane[cell + 1];
 }
 
-/* Up: the last cell's number goes to every row, which adds what stands above it in the group. */
-static void spread_up(size_t side, uint16_t before_group, const uint16_t *sums, const uint16_t upto[], uint16_t before[])
+/* Up: in each move the next row of every group takes what it receives. */
+static void copy_up(size_t side, size_t cells, uint32_t *lane)
 {
-    for (size_t row = side; row-- > 0;)
-        before[row] = before_group + upto[row] - sums[row * side + side - 1];
+    for (size_t row = side - 1; row-- > 0;)
+        for (size_t start = row * side; start < cells; start += side * side)
+            for (size_t cell = start; cell < start + side; cell++)
+                lane[cell] = lane[cell + side];
 }
 
-/* Left: every cell of a row adds the row's number, and a marked cell takes itself off. */
-static void spread_left(size_t side, const uint8_t *marks, const uint16_t before[], uint16_t *sums)
+static void swap_words(size_t places, uint32_t *lane)
 {
-    for (size_t row = 0; row < side; row++)
-        for (size_t column = side; column-- > 0;) {
-            size_t cell = row * side + column;
-            sums[cell] = marks[cell] ? sums[cell] + before[row] - 1 : 0;
+    for (size_t group = 0; group < places; group++)
+        for (size_t place = group + 1; place < places; place++) {
+            uint32_t word = lane[group * places + place];
+            lane[group * places + place] = lane[place * places + group];
+            lane[place * places + group] = word;
         }
 }
 
-static void rank_cells(size_t side, const uint8_t *marks, uint16_t *aims)
+/* What a cell does by itself. */
+static void take(size_t cells, uint32_t *restrict lane, const uint32_t *restrict other)
 {
-    size_t places = side * side;
-    struct row_sums rows;
-    uint16_t totals[MOST_PLACES] = {0};
-    for (size_t cell = 0; cell < places * places; cell++)
-        aims[cell] = marks[cell];
-    sum_rows(side, places * side, aims);
-    for (size_t group = 0; group < places; group++) {
-        sum_down(side, aims + group * places, rows.upto[group]);
-        totals[group] = rows.upto[group][side - 1];
-    }
-    sum_groups(side, totals);
-    for (size_t group = 0; group < places; group++)
-        spread_up(side, totals[group], aims + group * places, rows.upto[group], rows.before[group]);
-    for (size_t group = 0; group < places; group++)
-        spread_left(side, marks + group * places, rows.before[group], aims + group * places);
+    memcpy(lane, other, cells * sizeof *lane);
 }
 
-struct otis_answer stepper_rank(
+static void add(size_t cells, uint32_t *restrict lane, const uint32_t *restrict other)
+{
+    for (size_t cell = 0; cell < cells; cell++)
+        lane[cell] += other[cell];
+}
+
+static void subtract(size_t cells, uint32_t *restrict lane, const uint32_t *restrict other)
+{
+    for (size_t cell = 0; cell < cells; cell++)
+        lane[cell] -= other[cell];
+}
+
+/* Steps 1 to 3: the sums of the rows, theirs down the columns, and these by light. */
+static void sum_groups(size_t side, size_t cells, struct sums *sums)
+{
+    add_right(side, cells, sums->r);
+    take(cells, sums->c, sums->r);
+    add_down(side, cells, sums->c);
+    take(cells, sums->a, sums->c);
+    swap_words(side * side, sums->a);
+}
+
+/* Steps 4 and 5: the sums of what came, without what came to the cell itself, and these back by light. */
+static void sum_over_groups(size_t side, size_t cells, struct sums *sums)
+{
+    take(cells, sums->y, sums->a);
+    add_right(side, cells, sums->y);
+    take(cells, sums->z, sums->y);
+    add_down(side, cells, sums->z);
+    subtract(cells, sums->z, sums->y);
+    copy_left(side, cells, sums->z);
+    add(cells, sums->z, sums->y);
+    subtract(cells, sums->z, sums->a);
+    swap_words(side * side, sums->z);
+}
+
+/* Steps 6 to 9: up the columns, and with the rows above along each row. */
+static void spread_sums(size_t side, size_t cells, struct sums *sums)
+{
+    copy_up(side, cells, sums->z);
+    add(cells, sums->z, sums->c);
+    subtract(cells, sums->z, sums->r);
+    copy_left(side, cells, sums->z);
+    add(cells, sums->r, sums->z);
+}
+
+/* All moves of the prefix sum, in all groups. */
+static void rank_by_moves(size_t side, const uint8_t *restrict marks, uint16_t *restrict aims)
+{
+    struct sums sums;
+    size_t cells = OTIS_CELLS(side);
+    for (size_t cell = 0; cell < cells; cell++)
+        sums.r[cell] = marks[cell];
+    sum_groups(side, cells, &sums);
+    sum_over_groups(side, cells, &sums);
+    spread_sums(side, cells, &sums);
+    for (size_t cell = 0; cell < cells; cell++) {
+        uint16_t rank = (uint16_t)(sums.r[cell] - 1);
+        aims[cell] = marks[cell] ? rank : 0;
+    }
+}
+
+/* Judges what is lent to rank, ranks, and writes the list. */
+static struct otis_answer rank_by(
+    void (*rank_cells)(size_t side, const uint8_t *marks, uint16_t *aims),
     size_t side,
     const uint8_t *marks, size_t marks_length,
     uint16_t *aims, size_t aims_length,
@@ -135,6 +186,98 @@ struct otis_answer stepper_rank(
         return judged;
     rank_cells(side, marks, aims);
     return write_codes(side, runs, codes);
+}
+
+struct otis_answer stepper_rank(
+    size_t side,
+    const uint8_t *marks, size_t marks_length,
+    uint16_t *aims, size_t aims_length,
+    uint8_t *codes, size_t codes_length)
+{
+    return rank_by(rank_by_moves, side, marks, marks_length, aims, aims_length, codes, codes_length);
+}
+
+/* ---- rank once more, counted without making the moves: the row sums are kept aside, only one group works between the swaps,
+ * and nothing is swapped */
+
+/* One number for each row of each group. */
+struct row_sums {
+    uint16_t upto[MOST_PLACES][MOST_SIDE];   /* the rows of the group down to this one */
+    uint16_t before[MOST_PLACES][MOST_SIDE]; /* all marked cells before this row */
+};
+
+static void count_rows(size_t side, size_t rows, uint16_t *sums)
+{
+    for (size_t column = 1; column < side; column++)
+        for (size_t row = 0; row < rows; row++)
+            sums[row * side + column] += sums[row * side + column - 1];
+}
+
+static void count_down(size_t side, const uint16_t *sums, uint16_t upto[])
+{
+    upto[0] = sums[side - 1];
+    for (size_t row = 1; row < side; row++)
+        upto[row] = upto[row - 1] + sums[row * side + side - 1];
+}
+
+/* Makes of every group's sum the number of marked cells before the group. */
+static void count_before_groups(size_t side, uint16_t totals[])
+{
+    uint16_t own[MOST_PLACES];
+    uint16_t upto[MOST_SIDE];
+    memcpy(own, totals, sizeof own);
+    count_rows(side, side, totals);
+    count_down(side, totals, upto);
+    for (size_t row = 0; row < side; row++) {
+        uint16_t above = upto[row] - totals[row * side + side - 1];
+        for (size_t column = side; column-- > 0;)
+            totals[row * side + column] += above - own[row * side + column];
+    }
+}
+
+static void count_before_rows(
+    size_t side, uint16_t before_group, const uint16_t *sums, const uint16_t upto[], uint16_t before[])
+{
+    for (size_t row = side; row-- > 0;)
+        before[row] = before_group + upto[row] - sums[row * side + side - 1];
+}
+
+/* Every cell of a row adds the row's number, and a marked cell takes itself off. */
+static void add_before_rows(size_t side, const uint8_t *marks, const uint16_t before[], uint16_t *sums)
+{
+    for (size_t row = 0; row < side; row++)
+        for (size_t column = side; column-- > 0;) {
+            size_t cell = row * side + column;
+            sums[cell] = marks[cell] ? sums[cell] + before[row] - 1 : 0;
+        }
+}
+
+static void rank_by_count(size_t side, const uint8_t *marks, uint16_t *aims)
+{
+    size_t places = side * side;
+    struct row_sums rows;
+    uint16_t totals[MOST_PLACES] = {0};
+    for (size_t cell = 0; cell < places * places; cell++)
+        aims[cell] = marks[cell];
+    count_rows(side, places * side, aims);
+    for (size_t group = 0; group < places; group++) {
+        count_down(side, aims + group * places, rows.upto[group]);
+        totals[group] = rows.upto[group][side - 1];
+    }
+    count_before_groups(side, totals);
+    for (size_t group = 0; group < places; group++)
+        count_before_rows(side, totals[group], aims + group * places, rows.upto[group], rows.before[group]);
+    for (size_t group = 0; group < places; group++)
+        add_before_rows(side, marks + group * places, rows.before[group], aims + group * places);
+}
+
+struct otis_answer shortest_rank(
+    size_t side,
+    const uint8_t *marks, size_t marks_length,
+    uint16_t *aims, size_t aims_length,
+    uint8_t *codes, size_t codes_length)
+{
+    return rank_by(rank_by_count, side, marks, marks_length, aims, aims_length, codes, codes_length);
 }
 
 /* ---- concentrate and distribute */

@@ -1,10 +1,17 @@
-/* A plain C stepper of the same three operations: what the archive is measured against. Parameters as in otis.h. */
+/* A plain C stepper of the same three operations, and a rank that makes no moves: what the archive is measured against.
+ * Parameters as in otis.h. */
 #ifndef STEPPER_H
 #define STEPPER_H
 
 #include "otis.h"
 
 struct otis_answer stepper_rank(
+    size_t side,
+    const uint8_t *marks, size_t marks_length,
+    uint16_t *aims, size_t aims_length,
+    uint8_t *codes, size_t codes_length);
+
+struct otis_answer shortest_rank(
     size_t side,
     const uint8_t *marks, size_t marks_length,
     uint16_t *aims, size_t aims_length,

@@ -1,204 +1,202 @@
-//! The functions of `include/otis.h` and of the C stepper, declared once more and wrapped so that a caller needs no `unsafe`.
-//!
-//! Nothing checks these declarations against the archive; the differential tests would not pass with a wrong one.
+//! Calls of the functions of `include/otis.h` as `c/server.c` takes them, and the answers that it must give.
 
-use crate::fence::{Fenced, Post};
+use crate::fence::{parted, write_fenced, Post, FENCE};
 use crate::model::answers::Answer;
-use crate::model::records::{Lanes, Lent, Operation};
+use crate::model::records::{Lent, Operation};
 
-#[repr(C)]
-pub struct RawAnswer {
-    number: usize,
-    place: usize,
-    electronic: usize,
-    swaps: usize,
+#[derive(Clone, Copy, Debug, PartialEq, Eq)]
+pub enum Function {
+    Rank,
+    Run(Operation),
 }
 
-type Rank = unsafe extern "C" fn(usize, *const u8, usize, *mut u16, usize, *mut u8, usize) -> RawAnswer;
-
-#[rustfmt::skip]
-type Mover = unsafe extern "C" fn(
-    usize,
-    *mut u32, usize, *mut u8, usize, *mut u16, usize,
-    *mut u32, usize, *mut u8, usize, *mut u16, usize,
-    *mut u8, usize, *mut u16, usize,
-) -> RawAnswer;
-
-macro_rules! declare {
-    ($rank:ident, $concentrate:ident, $distribute:ident) => {
-        #[rustfmt::skip]
-        extern "C" {
-            fn $rank(
-                side: usize,
-                marks: *const u8, marks_length: usize, aims: *mut u16, aims_length: usize,
-                codes: *mut u8, codes_length: usize,
-            ) -> RawAnswer;
-            fn $concentrate(
-                side: usize,
-                words: *mut u32, words_length: usize, marks: *mut u8, marks_length: usize,
-                aims: *mut u16, aims_length: usize,
-                spare_words: *mut u32, spare_words_length: usize, spare_marks: *mut u8, spare_marks_length: usize,
-                spare_aims: *mut u16, spare_aims_length: usize,
-                codes: *mut u8, codes_length: usize, moved: *mut u16, moved_length: usize,
-            ) -> RawAnswer;
-            fn $distribute(
-                side: usize,
-                words: *mut u32, words_length: usize, marks: *mut u8, marks_length: usize,
-                aims: *mut u16, aims_length: usize,
-                spare_words: *mut u32, spare_words_length: usize, spare_marks: *mut u8, spare_marks_length: usize,
-                spare_aims: *mut u16, spare_aims_length: usize,
-                codes: *mut u8, codes_length: usize, moved: *mut u16, moved_length: usize,
-            ) -> RawAnswer;
-        }
-    };
-}
-
-declare!(otis_rank, otis_concentrate, otis_distribute);
-declare!(stepper_rank, stepper_concentrate, stepper_distribute);
-
-/// One of the two that are called: the archive, or the C stepper.
-pub struct Callee {
-    pub name: &'static str,
-    rank: Rank,
-    concentrate: Mover,
-    distribute: Mover,
-}
-
-pub const ARCHIVE: Callee =
-    Callee { name: "archive", rank: otis_rank, concentrate: otis_concentrate, distribute: otis_distribute };
-
-pub const STEPPER: Callee =
-    Callee { name: "C stepper", rank: stepper_rank, concentrate: stepper_concentrate, distribute: stepper_distribute };
-
-pub struct FencedLanes {
-    words: Fenced<u32>,
-    marks: Fenced<u8>,
-    aims: Fenced<u16>,
-}
-
-impl FencedLanes {
-    fn new(lanes: &Lanes) -> FencedLanes {
-        FencedLanes {
-            words: Fenced::new(&lanes.words),
-            marks: Fenced::new(&lanes.marks),
-            aims: Fenced::new(&lanes.aims),
+impl Function {
+    /// Its number in a request.
+    fn number(self) -> usize {
+        match self {
+            Function::Rank => 1,
+            Function::Run(Operation::Concentrate) => 2,
+            Function::Run(Operation::Distribute) => 3,
         }
     }
-
-    fn whole(&self) -> bool {
-        self.words.whole() && self.marks.whole() && self.aims.whole()
-    }
-
-    fn difference(&self, slot: &str, wanted: &Lanes) -> Option<String> {
-        difference("words", &self.words, &wanted.words)
-            .or_else(|| difference("marks", &self.marks, &wanted.marks))
-            .or_else(|| difference("aims", &self.aims, &wanted.aims))
-            .map(|told| format!("{slot} {told}"))
-    }
 }
 
-/// The first entry that is not as wanted, told for a reader.
-fn difference<T: Post>(name: &str, fenced: &Fenced<T>, wanted: &[T]) -> Option<String> {
-    let inside = fenced.inside();
-    if inside == wanted {
-        return None;
-    }
-    let at = (0..wanted.len()).find(|&at| inside[at] != wanted[at])?;
-    Some(format!("{name}: entry {at} is {:?}, not {:?}", inside[at], wanted[at]))
-}
-
-/// What is lent to concentrate or distribute, each part between fences.
-pub struct FencedLent {
-    front: FencedLanes,
-    spare: FencedLanes,
-    codes: Fenced<u8>,
-    moved: Fenced<u16>,
-}
-
-impl FencedLent {
-    pub fn new(lent: &Lent) -> FencedLent {
-        FencedLent {
-            front: FencedLanes::new(&lent.front),
-            spare: FencedLanes::new(&lent.spare),
-            codes: Fenced::new(&lent.codes),
-            moved: Fenced::new(&lent.moved),
-        }
-    }
-
-    pub fn whole(&self) -> bool {
-        self.front.whole() && self.spare.whole() && self.codes.whole() && self.moved.whole()
-    }
-
-    /// The first entry that is not as wanted.
-    pub fn difference(&self, wanted: &Lent) -> Option<String> {
-        self.front
-            .difference("front", &wanted.front)
-            .or_else(|| self.spare.difference("spare", &wanted.spare))
-            .or_else(|| difference("codes", &self.codes, &wanted.codes))
-            .or_else(|| difference("moved", &self.moved, &wanted.moved))
-    }
-}
+/// The request that asks for the answers so far.
+pub const SEND: [u8; 8] = [0; 8];
 
 /// What is lent to rank.
-pub struct FencedRank {
-    marks: Fenced<u8>,
-    aims: Fenced<u16>,
-    codes: Fenced<u8>,
+#[derive(Clone, Debug, PartialEq, Eq)]
+pub struct Ranked {
+    pub marks: Vec<u8>,
+    pub aims: Vec<u16>,
+    pub codes: Vec<u8>,
 }
 
-impl FencedRank {
-    pub fn new(marks: &[u8], aims: &[u16], codes: &[u8]) -> FencedRank {
-        FencedRank { marks: Fenced::new(marks), aims: Fenced::new(aims), codes: Fenced::new(codes) }
+/// What is lent to a function: its slices, in the order of the header.
+pub trait Slices {
+    fn write(&self, slices: &mut Written);
+}
+
+impl Slices for Ranked {
+    fn write(&self, slices: &mut Written) {
+        slices.add("marks", &self.marks);
+        slices.add("aims", &self.aims);
+        slices.add("codes", &self.codes);
+    }
+}
+
+impl Slices for Lent {
+    fn write(&self, slices: &mut Written) {
+        slices.add("words", &self.front.words);
+        slices.add("marks", &self.front.marks);
+        slices.add("aims", &self.front.aims);
+        slices.add("spare words", &self.spare.words);
+        slices.add("spare marks", &self.spare.marks);
+        slices.add("spare aims", &self.spare.aims);
+        slices.add("codes", &self.codes);
+        slices.add("moved", &self.moved);
+    }
+}
+
+struct Slice {
+    name: &'static str,
+    width: usize,
+    length: usize,
+}
+
+/// Slices between their fences, as they go through the pipe.
+#[derive(Default)]
+pub struct Written {
+    slices: Vec<Slice>,
+    bytes: Vec<u8>,
+}
+
+impl Written {
+    fn of(lent: &impl Slices) -> Written {
+        let mut written = Written::default();
+        lent.write(&mut written);
+        written
     }
 
-    pub fn whole(&self) -> bool {
-        self.marks.whole() && self.aims.whole() && self.codes.whole()
+    fn add<T: Post>(&mut self, name: &'static str, slice: &[T]) {
+        self.slices.push(Slice { name, width: T::WIDTH, length: slice.len() });
+        write_fenced(slice, &mut self.bytes);
+    }
+}
+
+/// A call, and what it must answer.
+pub struct Call {
+    pub function: Function,
+    pub side: usize,
+    slices: Vec<Slice>,
+    pub request: Vec<u8>,
+    pub wanted: Vec<u8>,
+}
+
+impl Call {
+    /// The call of a function on what is lent, which has to leave what is left and to give the answer.
+    pub fn new<T: Slices>(function: Function, side: usize, lent: &T, left: &T, answer: Answer) -> Call {
+        let (Written { slices, bytes: before }, after) = (Written::of(lent), Written::of(left).bytes);
+        let mut head = vec![function.number(), side];
+        head.extend(slices.iter().map(|slice| slice.length));
+        let answer = [answer.number, answer.place, answer.electronic, answer.swaps];
+        let request = [numbers(&head), before].concat();
+        let wanted = [numbers(&answer), after].concat();
+        Call { function, side, slices, request, wanted }
+    }
+
+    /// What is wrong with an answer, told for a reader.
+    pub fn told(&self, got: &[u8]) -> String {
+        let ((answer, left), (wanted, wanted_left)) = (got.split_at(ANSWER), self.wanted.split_at(ANSWER));
+        let difference = self.difference(left, wanted_left).unwrap_or("lanes and logs as wanted".to_string());
+        let fences = if self.fences(left) == self.fences(wanted_left) { "fences whole" } else { "FENCES BROKEN" };
+        format!("answer {}\n  wanted {}\n  {difference}; {fences}", told_answer(answer), told_answer(wanted))
+    }
+
+    /// The cells whose marks were not 0, so that a failure can be made again by hand.
+    pub fn told_marks(&self) -> String {
+        let slices = &self.request[8 * (2 + self.slices.len())..];
+        let marks = self.parts(slices).find(|(slice, _)| slice.name == "marks");
+        let marks = marks.map_or(&[][..], |(slice, whole)| parted(whole, slice.width).1);
+        let cells = marks.iter().enumerate().filter(|(_, &mark)| mark != 0);
+        let told: Vec<String> = cells.map(|(cell, mark)| format!("{cell}:{mark}")).take(64).collect();
+        format!("[{}] of {}", told.join(" "), marks.len())
+    }
+
+    /// The slices, each with its bytes.
+    fn parts<'a>(&'a self, mut bytes: &'a [u8]) -> impl Iterator<Item = (&'a Slice, &'a [u8])> {
+        self.slices.iter().map(move |slice| {
+            let (whole, rest) = bytes.split_at((slice.length + 2 * FENCE) * slice.width);
+            bytes = rest;
+            (slice, whole)
+        })
+    }
+
+    fn fences<'a>(&'a self, bytes: &'a [u8]) -> Vec<[&'a [u8]; 2]> {
+        self.parts(bytes).map(|(slice, whole)| parted(whole, slice.width).0).collect()
     }
 
     /// The first entry that is not as wanted.
-    pub fn difference(&self, marks: &[u8], aims: &[u16], codes: &[u8]) -> Option<String> {
-        difference("marks", &self.marks, marks)
-            .or_else(|| difference("aims", &self.aims, aims))
-            .or_else(|| difference("codes", &self.codes, codes))
+    fn difference(&self, left: &[u8], wanted: &[u8]) -> Option<String> {
+        let pairs = self.parts(left).zip(self.parts(wanted));
+        pairs.filter_map(|((slice, left), (_, wanted))| slice.difference(left, wanted)).next()
     }
 }
 
-impl Callee {
-    pub fn rank(&self, side: usize, lent: &mut FencedRank) -> Answer {
-        let FencedRank { marks, aims, codes } = lent;
-        let lengths = (marks.length(), aims.length(), codes.length());
-        // each pointer is to as many entries as the length beside it says, and no two overlap
-        let raw = unsafe {
-            (self.rank)(side, marks.pointer(), lengths.0, aims.pointer(), lengths.1, codes.pointer(), lengths.2)
-        };
-        read(raw)
-    }
-
-    #[rustfmt::skip]
-    pub fn run(&self, operation: Operation, side: usize, lent: &mut FencedLent) -> Answer {
-        let FencedLent { front, spare, codes, moved } = lent;
-        let call = match operation {
-            Operation::Concentrate => self.concentrate,
-            Operation::Distribute => self.distribute,
-        };
-        // as in rank
-        let raw = unsafe {
-            call(
-                side,
-                front.words.pointer(), front.words.length(),
-                front.marks.pointer(), front.marks.length(),
-                front.aims.pointer(), front.aims.length(),
-                spare.words.pointer(), spare.words.length(),
-                spare.marks.pointer(), spare.marks.length(),
-                spare.aims.pointer(), spare.aims.length(),
-                codes.pointer(), codes.length(),
-                moved.pointer(), moved.length(),
-            )
-        };
-        read(raw)
+impl Slice {
+    fn difference(&self, left: &[u8], wanted: &[u8]) -> Option<String> {
+        let (left, wanted) = (parted(left, self.width).1, parted(wanted, self.width).1);
+        let mut entries = left.chunks(self.width).zip(wanted.chunks(self.width)).enumerate();
+        let (at, (is, not)) = entries.find(|(_, (is, not))| is != not)?;
+        Some(format!("{}: entry {at} is {}, not {}", self.name, number(is), number(not)))
     }
 }
 
-fn read(raw: RawAnswer) -> Answer {
-    Answer { number: raw.number, place: raw.place, electronic: raw.electronic, swaps: raw.swaps }
+/// The bytes of an answer's four numbers.
+const ANSWER: usize = 4 * 8;
+
+fn numbers(numbers: &[usize]) -> Vec<u8> {
+    numbers.iter().flat_map(|&number| (number as u64).to_le_bytes()).collect()
+}
+
+fn number(bytes: &[u8]) -> u64 {
+    bytes.iter().rev().fold(0, |number, &byte| number << 8 | byte as u64)
+}
+
+fn told_answer(bytes: &[u8]) -> String {
+    let numbers: Vec<u64> = bytes.chunks(8).map(number).collect();
+    format!("number {} place {} electronic {} swaps {}", numbers[0], numbers[1], numbers[2], numbers[3])
+}
+
+#[cfg(test)]
+mod tests {
+    use super::*;
+
+    fn call() -> Call {
+        let lent = Ranked { marks: vec![0, 1], aims: vec![7, 7], codes: vec![9] };
+        let left = Ranked { aims: vec![0, 258], ..lent.clone() };
+        Call::new(Function::Rank, 3, &lent, &left, Answer { number: 5, place: 1, electronic: 0, swaps: 0 })
+    }
+
+    #[test]
+    fn a_request_is_numbers_and_slices_whole() {
+        let request = call().request;
+        assert_eq!(request[..40], numbers(&[1, 3, 2, 2, 1]));
+        assert_eq!(request.len(), 40 + 34 + 2 * 34 + 33);
+        assert_eq!(request[40..40 + 19], [&[0xA5; 16][..], &[0, 1], &[0xA5]].concat());
+    }
+
+    #[test]
+    fn a_difference_is_told_by_slice_and_entry() {
+        let call = call();
+        let entry = ANSWER + 34 + 2 * (FENCE + 1);
+        let mut got = call.wanted.clone();
+        got[entry + 1] = 2;
+        assert!(call.told(&got).contains("aims: entry 1 is 514, not 258; fences whole"));
+        got[entry + 2] ^= 1;
+        assert!(call.told(&got).ends_with("FENCES BROKEN"));
+        got[0] = 6;
+        assert!(call.told(&got).starts_with("answer number 6 place 1 "));
+        assert_eq!(call.told_marks(), "[1:1] of 2");
+    }
 }

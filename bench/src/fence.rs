@@ -1,56 +1,44 @@
-//! A lane or a log between two fences, to see that nothing outside it is touched.
+//! A lane or a log as it goes through a pipe: between two fences, to see that nothing outside it is touched.
 
-use std::fmt::Debug;
-
-const FENCE: usize = 16;
+/// Entries before a slice, and behind it: as many as `c/server.c` says.
+pub const FENCE: usize = 16;
 
 /// Numbers that can stand in a fence.
-pub trait Post: Copy + PartialEq + Debug {
+pub trait Post: Copy {
     const POST: Self;
+    const WIDTH: usize;
+    fn write(self, bytes: &mut Vec<u8>);
 }
 
-impl Post for u8 {
-    const POST: u8 = 0xA5;
-}
-
-impl Post for u16 {
-    const POST: u16 = 0xA55A;
-}
-
-impl Post for u32 {
-    const POST: u32 = 0xA55A_5AA5;
-}
-
-pub struct Fenced<T> {
-    all: Vec<T>,
-}
-
-impl<T: Post> Fenced<T> {
-    pub fn new(inside: &[T]) -> Fenced<T> {
-        let fence = [T::POST; FENCE];
-        Fenced { all: [&fence, inside, &fence].concat() }
-    }
-
-    pub fn length(&self) -> usize {
-        self.all.len() - 2 * FENCE
-    }
-
-    /// Null where nothing is lent, as a C caller may well pass it.
-    pub fn pointer(&mut self) -> *mut T {
-        match self.length() {
-            0 => std::ptr::null_mut(),
-            _ => self.all[FENCE..].as_mut_ptr(),
+macro_rules! post {
+    ($number:ty, $post:expr) => {
+        impl Post for $number {
+            const POST: $number = $post;
+            const WIDTH: usize = size_of::<$number>();
+            fn write(self, bytes: &mut Vec<u8>) {
+                bytes.extend_from_slice(&self.to_le_bytes());
+            }
         }
-    }
+    };
+}
 
-    pub fn inside(&self) -> &[T] {
-        &self.all[FENCE..FENCE + self.length()]
-    }
+post!(u8, 0xA5);
+post!(u16, 0xA55A);
+post!(u32, 0xA55A_5AA5);
 
-    pub fn whole(&self) -> bool {
-        let end = FENCE + self.length();
-        self.all[..FENCE].iter().chain(&self.all[end..]).all(|&post| post == T::POST)
+/// Writes a slice between its fences.
+pub fn write_fenced<T: Post>(slice: &[T], bytes: &mut Vec<u8>) {
+    let fence = [T::POST; FENCE];
+    for &entry in fence.iter().chain(slice).chain(&fence) {
+        entry.write(bytes);
     }
+}
+
+/// The bytes of a slice's fences and of its own entries, which are `width` bytes each.
+pub fn parted(fenced: &[u8], width: usize) -> ([&[u8]; 2], &[u8]) {
+    let (before, rest) = fenced.split_at(FENCE * width);
+    let (inside, behind) = rest.split_at(rest.len() - FENCE * width);
+    ([before, behind], inside)
 }
 
 #[cfg(test)]
@@ -58,12 +46,14 @@ mod tests {
     use super::*;
 
     #[test]
-    fn a_store_outside_is_seen() {
-        for (place, seen) in [(-1isize, true), (0, false), (2, false), (3, true)] {
-            let mut fenced = Fenced::new(&[1u16, 2, 3]);
-            // inside the vector, whose fences are 16 entries wide
-            unsafe { *fenced.pointer().offset(place) = 7 };
-            assert_eq!(fenced.whole(), !seen);
+    fn a_store_outside_is_in_a_fence() {
+        let mut wanted = Vec::new();
+        write_fenced(&[1u16, 2, 3], &mut wanted);
+        for (entry, outside) in [(FENCE - 1, true), (FENCE, false), (FENCE + 2, false), (FENCE + 3, true)] {
+            let mut got = wanted.clone();
+            got[2 * entry] ^= 7;
+            assert_eq!(parted(&got, 2).0 != parted(&wanted, 2).0, outside);
+            assert_eq!(parted(&got, 2).1 != parted(&wanted, 2).1, !outside);
         }
     }
 }

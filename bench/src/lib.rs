@@ -1,8 +1,9 @@
-//! Tests and times of the proved archive, against a model of its own.
+//! Tests of the proved archive, against a model of its own.
 
-pub mod frames;
-pub mod model;
+#![forbid(unsafe_code)]
 
-#[cfg(feature = "archive")]
 pub mod calls;
 pub mod fence;
+pub mod frames;
+pub mod model;
+pub mod servers;
