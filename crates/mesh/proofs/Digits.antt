@@ -1,5 +1,5 @@
 -- The distance of a record from its place, by the digits of its aim.
-use Prim.Native.Nat.{ℕ, _*_, _/_, _%_, _≤_, _<_}
+use Prim.Native.Nat.{ℕ, _-_, _*_, _/_, _%_, _≤_, _<_}
 use mathlib.Core.Path.{_≡_, sym, ap, _∙_}
 use mathlib.Core.Bool.{Bool, true, false, cond}
 use native.Mathlib.Nat.{mod-lt, mod-eq-of-lt, mul-pos, div-one, one-mul, div-div-eq-div-mul, mul-le-mul}
@@ -11,8 +11,15 @@ use Rattle.array.specs.Cells.{groups, place, row, column}
 use Rattle.array.proofs.Board.{Side}
 use Rattle.travel.specs.Travel.{distance}
 use Rattle.mesh.specs.declared.moving.Rule.{Rule}
-use Rattle.mesh.specs.Inside.{unitOf, weight, scaleOf, coordinate, span}
+use Rattle.mesh.specs.Inside.{unitOf, weight, scaleOf, coordinate}
 use Rattle.mesh.specs.Mesh.{headingOf}
+
+-- how far d lies from c, one way
+abbrev pub span : Way → ℕ → ℕ → ℕ
+span Right d c = d - c
+span Left d c = c - d
+span Up d c = c - d
+span Down d c = d - c
 
 module _ {s : ℕ} (pos : 0 < s) where
   column-of : (r : ℕ) → column s (r % groups s) ≡ r % s

@@ -1,8 +1,9 @@
 pub mod Boards
 pub mod Digits
+pub mod Fractions
+pub mod Going
 pub mod Groups
 pub mod Parts
-pub mod Quotients
 pub mod Sending
 pub mod Slots
 pub mod Stepping

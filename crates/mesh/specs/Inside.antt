@@ -1,15 +1,16 @@
 -- What private functions' contracts cite; the public contracts are read without it.
-use Prim.Native.Nat.{ℕ, _+_, _-_, _*_, _/_, _≤_, _<_}
+use Prim.Native.Nat.{ℕ, _+_, _-_, _*_, _/_, _≤_, _<_, min}
 use mathlib.Core.Path.{_≡_}
 use mathlib.Core.Bool.{Bool, true, cond}
+use mathlib.Core.List.{List}
 use lib.Dec.{eqb}
+use lib.ListN.{length, getD}
 use Rattle.laws.specs.Sums.{sum}
 use Rattle.array.specs.declared.moves.Way.{Way}
 use Rattle.array.specs.declared.moves.Way.the-variants.{Right, Left, Up, Down}
-use Rattle.array.specs.Cells.{groups, row, column, onward}
+use Rattle.array.specs.Cells.{isSide, groups, row, column, onward}
 use Rattle.mesh.specs.declared.cells.Cell.{Cell}
 use Rattle.mesh.specs.declared.moving.Rule.{Rule}
-use Rattle.mesh.specs.declared.moving.Measure.{Measure}
 use Rattle.mesh.specs.Cells.{joined, countOf}
 use Rattle.mesh.specs.Mesh.{firstOf, restOf, goerOf, stayedOf, movedOf}
 
@@ -33,13 +34,6 @@ coordinate s Left p = column s p
 coordinate s Up p = row s p
 coordinate s Down p = row s p
 
--- how far d lies from c, one way
-abbrev pub span : Way → ℕ → ℕ → ℕ
-span Right d c = d - c
-span Left d c = c - d
-span Up d c = c - d
-span Down d c = d - c
-
 -- the place of turn k of n: from the far end back
 abbrev pub turnOf : Way → ℕ → ℕ → ℕ
 turnOf Right n k = n - 1 - k
@@ -47,14 +41,35 @@ turnOf Left n k = k
 turnOf Up n k = k
 turnOf Down n k = n - 1 - k
 
--- 2^32 over a number, and one: a product by it, over 2^32, divides a 16-bit number
-abbrev pub shareOf : ℕ → ℕ
-shareOf by = 4294967296 / by + 1
+-- the period of the digit in an aim
+abbrev pub periodOf : Rule → ℕ
+periodOf t = t .side * scaleOf t
 
-pub record Measured (t : Rule) (m : Measure) : Type 0 where
-  pub scaled : m .scale ≡ scaleOf t
-  pub by-scale : m .inverse ≡ shareOf (scaleOf t)
-  pub by-side : m .share ≡ shareOf (t .side)
+-- 2^32 over a period, and one: a 16-bit number times it tells, below 2^32, how far along its period the number is
+abbrev pub shareOf : ℕ → ℕ
+shareOf d = 4294967296 / d + 1
+
+-- how far along its period an aim is that goes from column or row c, in steps of a unit
+abbrev pub limitFor : Way → ℕ → ℕ → ℕ → ℕ
+limitFor Right wait unit c = (c + wait + 1) * unit
+limitFor Left wait unit c = (c - wait) * unit
+limitFor Up wait unit c = (c - wait) * unit
+limitFor Down wait unit c = (c + wait + 1) * unit
+
+-- the same for place p; nothing has further to go than the side
+abbrev pub limitOf : Rule → ℕ → ℕ
+limitOf t p = limitFor (t .way) (min (t .wait) (t .side)) (scaleOf t * shareOf (periodOf t)) (coordinate (t .side) (t .way) p)
+
+-- the limits of all places
+pub record Limited (t : Rule) (limits : List ℕ) : Type 0 where
+  pub long : length limits ≡ 64
+  pub at : (p : ℕ) → p < groups (t .side) → getD limits p 0 ≡ limitOf t p
+
+-- all that a move is made by
+pub record Ready (t : Rule) (share : ℕ) (limits : List ℕ) : Type 0 where
+  pub side : isSide (t .side) ≡ true
+  pub shared : share ≡ shareOf (periodOf t)
+  pub limited : Limited t limits
 
 -- the front record of place p, or the spare one, has gone to place q
 pub record HandedOn (first : Bool) (p q : ℕ) (T T′ : ℕ → Cell) : Type 0 where

@@ -9,14 +9,14 @@ use crate::cells::read;
 use array::moves::Way;
 ghost use mathlib.Core.Path.{_≡_};
 ghost use mathlib.Core.Bool.{true, _||_};
-ghost use Prim.Native.Nat.{ℕ, _+_, _-_, _*_, _/_, _%_, _<_, _≤_};
+ghost use Prim.Native.Nat.{ℕ, _+_, _-_, _*_, _<_, _≤_, min};
 ghost use lib.ListN.{length};
 ghost use Rattle.array.specs.Cells.{isSide, groups, cells, onward as onwardOf};
 ghost use Rattle.mesh.specs.Cells.{Sized, cellAt, areLanes};
-ghost use Rattle.mesh.specs.Inside.{unitOf, scaleOf, coordinate as coordinateOf, span as spanOf, turnOf};
+ghost use Rattle.mesh.specs.Inside.{unitOf, scaleOf, coordinate as coordinateOf, turnOf};
 ghost use Rattle.mesh.specs.Mesh.{goesIn, firstOf, restOf};
 ghost use Rattle.mesh.specs.Moved.{MovedLanes};
-ghost use Rattle.mesh.specs.Inside.{shareOf, Measured, HandedOn, Sent, MovedGroup, MovedPart};
+ghost use Rattle.mesh.specs.Inside.{periodOf, shareOf, limitFor, limitOf, Limited, Ready, HandedOn, Sent, MovedGroup, MovedPart};
 
 // One move of a list: the way, whether a record heads for its aim mod N (low) or div N, and how far off it waits.
 pub struct Rule {
@@ -24,13 +24,6 @@ pub struct Rule {
     pub way: Way,
     pub low: bool,
     pub wait: usize,
-}
-
-// What a move divides by, the weight of the digit of an aim that its way goes by, and the side, each with 2^32 over it: a record then costs no division.
-struct Measure {
-    scale: usize,
-    inverse: usize,
-    share: usize,
 }
 
 // a - b, or 0 where b is the greater.
@@ -69,78 +62,82 @@ fn scale(t: Rule) -> usize
     }
 }
 
-fn share(by: usize) -> usize
-    requires { ⌜ 0 < by ⌝ }
-    ensures { λ r. ⌜ r ≡ shareOf by ⌝ }
-{
-    4294967296 / by + 1
-}
-
-fn measured(t: Rule) -> Measure
+// 2^32 over the period of the digit: an aim times it tells, below 2^32, how far along its period the aim is. So a record costs no division.
+fn share(t: Rule) -> usize
     requires { ⌜ isSide (t .side) ≡ true ⌝ }
-    ensures { λ r. ⌜ Measured t r ⌝ }
+    ensures { λ r. ⌜ r ≡ shareOf (periodOf t) ⌝ }
 {
-    let scale = scale(t);
-    Measure {
-        scale: scale,
-        inverse: share(scale),
-        share: share(t.side),
-    }
-}
-
-// x / by and x % by, by a product.
-fn quotient(x: usize, by: usize, share: usize) -> usize
-    requires { ⌜ (x < 65536) × (0 < by) × (by ≤ 512) × (share ≡ shareOf by) ⌝ }
-    ensures { λ r. ⌜ r ≡ x / by ⌝ }
-{
-    x * share / 4294967296
-}
-
-fn remainder(x: usize, by: usize, share: usize) -> usize
-    requires { ⌜ (x < 65536) × (0 < by) × (by ≤ 512) × (share ≡ shareOf by) ⌝ }
-    ensures { λ r. ⌜ r ≡ x % by ⌝ }
-{
-    x - quotient(x, by, share) * by
+    4294967296 / (t.side * scale(t)) + 1
 }
 
 // The column or the row of a place.
-fn coordinate(side: usize, share: usize, way: Way, at: usize) -> usize
-    requires { ⌜ (at < 65536) × (0 < side) × (side ≤ 512) × (share ≡ shareOf side) ⌝ }
+fn coordinate(side: usize, way: Way, at: usize) -> usize
+    requires { ⌜ 0 < side ⌝ }
     ensures { λ r. ⌜ r ≡ coordinateOf side way at ⌝ }
 {
     match way {
-        Way::Right => remainder(at, side, share),
-        Way::Left => remainder(at, side, share),
-        Way::Up => quotient(at, side, share),
-        Way::Down => quotient(at, side, share),
+        Way::Right => at % side,
+        Way::Left => at % side,
+        Way::Up => at / side,
+        Way::Down => at / side,
     }
 }
 
-// How far `to` lies from `at`, one way.
-fn span(way: Way, to: usize, at: usize) -> usize
-    ensures { λ r. ⌜ r ≡ spanOf way to at ⌝ }
+// How far along its period an aim is that goes from column or row c.
+fn limit(way: Way, wait: usize, unit: usize, c: usize) -> usize
+    requires { ⌜ (wait ≤ 8) × (unit ≤ 8589934592) × (c ≤ 64) ⌝ }
+    ensures { λ r. ⌜ r ≡ limitFor way wait unit c ⌝ }
 {
     match way {
-        Way::Right => over(to, at),
-        Way::Left => over(at, to),
-        Way::Up => over(at, to),
-        Way::Down => over(to, at),
+        Way::Right => (c + wait + 1) * unit,
+        Way::Left => over(c, wait) * unit,
+        Way::Up => over(c, wait) * unit,
+        Way::Down => (c + wait + 1) * unit,
     }
+}
+
+fn least(a: usize, b: usize) -> usize
+    ensures { λ r. ⌜ r ≡ min a b ⌝ }
+{
+    if a <= b { a } else { b }
+}
+
+// The same for every place of a group.
+fn limits(t: Rule, share: usize) -> [usize; 64]
+    requires { ⌜ isSide (t .side) ≡ true ⌝ }
+    requires { ⌜ share ≡ shareOf (periodOf t) ⌝ }
+    ensures { λ r. ⌜ Limited t r ⌝ }
+{
+    let side = t.side;
+    let way = t.way;
+    let unit = scale(t) * share;
+    let wait = least(t.wait, side);
+    let mut limits = [0usize; 64];
+    let mut at: usize = 0;
+    while at < side * side {
+        limits[at] = limit(way, wait, unit, coordinate(side, way, at));
+        at += 1;
+    }
+    limits
 }
 
 // Whether a record of this mark and aim goes.
-fn goes(t: Rule, m: Measure, at: usize, mark: u8, aim: u16) -> bool
+fn goes(t: Rule, share: usize, limit: usize, at: usize, mark: u8, aim: u16) -> bool
     requires { ⌜ isSide (t .side) ≡ true ⌝ }
-    requires { ⌜ Measured t m × (at < groups (t .side)) ⌝ }
+    requires { ⌜ (at < groups (t .side)) × (share ≡ shareOf (periodOf t)) × (limit ≡ limitOf t at) ⌝ }
     ensures { λ r. ⌜ ((word : ℕ) → r ≡ goesIn t at (record { word = word; mark = mark; aim = aim })) ⌝ }
 {
     if mark == 0 {
         return false;
     }
+    let along = wide(aim) * share % 4294967296;
     let way = t.way;
-    let upper = quotient(wide(aim), m.scale, m.inverse);
-    let digit = remainder(upper, t.side, m.share);
-    t.wait < span(way, digit, coordinate(t.side, m.share, way, at))
+    match way {
+        Way::Right => limit <= along,
+        Way::Left => along < limit,
+        Way::Up => along < limit,
+        Way::Down => limit <= along,
+    }
 }
 
 // The record that leaves a cell, the front one or the spare one, and the cell without it.
@@ -257,7 +254,8 @@ fn hand_on(
 // One place of a group sends on the record that leaves it, if one does; how many did. Only marks and aims are looked at where none does.
 fn send(
     t: Rule,
-    m: Measure,
+    share: usize,
+    limits: &[usize],
     n: usize,
     at: usize,
     words: &mut [u32],
@@ -267,13 +265,14 @@ fn send(
     spare_marks: &mut [u8],
     spare_aims: &mut [u16],
 ) -> usize
-    requires { ⌜ isSide (t .side) ≡ true ⌝ }
-    requires { ⌜ Measured t m × (at < groups (t .side)) × (n ≡ groups (t .side)) ⌝ }
+    requires { ⌜ Ready t share (now limits) ⌝ }
+    requires { ⌜ (at < groups (t .side)) × (n ≡ groups (t .side)) ⌝ }
     requires { ⌜ Sized n (now words) (now marks) (now aims) (now «spare_words») (now «spare_marks») (now «spare_aims») ⌝ }
     ensures { λ r. ⌜ Sent t at (cellAt (now (words .entry)) (now (marks .entry)) (now (aims .entry)) (now («spare_words» .entry)) (now («spare_marks» .entry)) (now («spare_aims» .entry))) (cellAt (now (words .exit)) (now (marks .exit)) (now (aims .exit)) (now («spare_words» .exit)) (now («spare_marks» .exit)) (now («spare_aims» .exit))) r ⌝ }
 {
-    let first = goes(t, m, at, marks[at], aims[at]);
-    let second = goes(t, m, at, spare_marks[at], spare_aims[at]);
+    let limit = limits[at];
+    let first = goes(t, share, limit, at, marks[at], aims[at]);
+    let second = goes(t, share, limit, at, spare_marks[at], spare_aims[at]);
     if !either(first, second) {
         return 0;
     }
@@ -297,6 +296,8 @@ fn send(
 // Every record of a group that goes, goes one cell; how many did. The lanes are the group's own stretch.
 fn move_group(
     t: Rule,
+    share: usize,
+    limits: &[usize],
     words: &mut [u32],
     marks: &mut [u8],
     aims: &mut [u16],
@@ -304,20 +305,20 @@ fn move_group(
     spare_marks: &mut [u8],
     spare_aims: &mut [u16],
 ) -> usize
-    requires { ⌜ isSide (t .side) ≡ true ⌝ }
+    requires { ⌜ Ready t share (now limits) ⌝ }
     requires { ⌜ Sized (groups (t .side)) (now words) (now marks) (now aims) (now «spare_words») (now «spare_marks») (now «spare_aims») ⌝ }
     ensures { λ r. ⌜ MovedGroup t (cellAt (now (words .entry)) (now (marks .entry)) (now (aims .entry)) (now («spare_words» .entry)) (now («spare_marks» .entry)) (now («spare_aims» .entry))) (cellAt (now (words .exit)) (now (marks .exit)) (now (aims .exit)) (now («spare_words» .exit)) (now («spare_marks» .exit)) (now («spare_aims» .exit))) r ⌝ }
 {
     let n = words.len();
     let way = t.way;
-    let m = measured(t);
     let mut moved: usize = 0;
     let mut k: usize = 0;
     while k < n {
         let at = turn(way, n, k);
         moved += send(
             t,
-            m,
+            share,
+            limits,
             n,
             at,
             words,
@@ -335,6 +336,8 @@ fn move_group(
 // The same in the group whose stretch of the lanes starts at base.
 fn move_part(
     t: Rule,
+    share: usize,
+    limits: &[usize],
     base: usize,
     words: &mut [u32],
     marks: &mut [u8],
@@ -343,7 +346,7 @@ fn move_part(
     spare_marks: &mut [u8],
     spare_aims: &mut [u16],
 ) -> usize
-    requires { ⌜ isSide (t .side) ≡ true ⌝ }
+    requires { ⌜ Ready t share (now limits) ⌝ }
     requires { ⌜ base + groups (t .side) ≤ cells (t .side) ⌝ }
     requires { ⌜ ((g : ℕ) × (base ≡ g * groups (t .side))) ⌝ }
     requires { ⌜ Sized (cells (t .side)) (now words) (now marks) (now aims) (now «spare_words») (now «spare_marks») (now «spare_aims») ⌝ }
@@ -352,6 +355,8 @@ fn move_part(
     let end = base + t.side * t.side;
     move_group(
         t,
+        share,
+        limits,
         &mut words[base..end],
         &mut marks[base..end],
         &mut aims[base..end],
@@ -385,12 +390,16 @@ pub fn move_all(
         return 0;
     }
     let groups = t.side * t.side;
+    let share = share(t);
+    let limits = limits(t, share);
     let mut moved: usize = 0;
     let mut base: usize = 0;
     let mut g: usize = 0;
     while g < groups {
         moved += move_part(
             t,
+            share,
+            &limits,
             base,
             words,
             marks,

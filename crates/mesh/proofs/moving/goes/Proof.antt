@@ -1,12 +1,11 @@
--- `mesh::moving::goes` meets its contract: the distance of the place that a record heads for is that of one digit of its aim.
-use mathlib.Core.Path.{ap, _∙_, sym}
-use native.Mathlib.Nat.{div-le-self}
+-- `mesh::moving::goes` meets its contract: the test by the limit is that of the move rule (Going).
 use native.Mathlib.Omega.{arith}
 use borrow.Author.Tests.{eq-eqb, ne-eqb}
 use Rattle.array.proofs.Board.{side-known}
 use Rattle.mesh.specs.Mesh.{goesIn}
-use Rattle.mesh.specs.Inside.{scaleOf, shareOf}
-use Rattle.mesh.proofs.Digits.{distance-by-digit, scale-few}
+use Rattle.mesh.specs.Inside.{periodOf}
+use Rattle.mesh.proofs.Fractions.{share-fits}
+use Rattle.mesh.proofs.Going.{period-pos, period-few, goes-by-limit, coordinate-in}
 use borrow.Author.Needs.{needs}
 use Rattle.mesh.proofs.moving.goes.Statement.{statement}
 use Rattle.mesh.proofs.moving.goes.Tie as tie
@@ -18,21 +17,36 @@ returns c = λ word. rw (eq-eqb _ _ (c .if1 .taken))
 wide-requires : tie.Need-wide-requires
 wide-requires c κs = search needs
 
-quotient-requires : tie.Need-quotient-requires
-quotient-requires c κs = (c .wide .ensures .1, rw (c .before .before .pre .1 .0 .scaled) (scale-few (c .before .before .args .t) (side-known (c .before .before .args .t .side) (c .before .before .pre .0)) .0), rw (c .before .before .pre .1 .0 .scaled) (scale-few (c .before .before .args .t) (side-known (c .before .before .args .t .side) (c .before .before .pre .0)) .1), c .before .before .pre .1 .0 .by-scale ∙ ap shareOf (sym (c .before .before .pre .1 .0 .scaled)))
+mul-along : tie.Need-mul-along
+mul-along c = rw (c .before .before .pre .1 .1) (omega (arith, share-fits (c .wide .result) (periodOf (c .before .before .args .t)) (period-pos (c .before .before .args .t) (side-known (c .before .before .args .t .side) (c .before .before .pre .0))) (period-few (c .before .before .args .t) (side-known (c .before .before .args .t .side) (c .before .before .pre .0))) (c .wide .ensures .1)))
 
-remainder-requires : tie.Need-remainder-requires
-remainder-requires c κs = (omega (arith, c .quotient .ensures, c .before .wide .ensures .1, div-le-self (c .before .wide .result) (c .before .before .before .args .m .scale)), side-known (c .before .before .before .args .t .side) (c .before .before .before .pre .0) .least, omega (arith, side-known (c .before .before .before .args .t .side) (c .before .before .before .pre .0) .most), c .before .before .before .pre .1 .0 .by-side)
+enum-told : tie.Need-enum-told
+enum-told c = search needs
 
-coordinate-requires : tie.Need-coordinate-requires
-coordinate-requires c κs = (omega (arith, c .before .before .before .before .pre .1 .1, side-known (c .before .before .before .before .args .t .side) (c .before .before .before .before .pre .0) .groups-few), side-known (c .before .before .before .before .args .t .side) (c .before .before .before .before .pre .0) .least, omega (arith, side-known (c .before .before .before .before .args .t .side) (c .before .before .before .before .pre .0) .most), c .before .before .before .before .pre .1 .0 .by-side)
+enum-told-2 : tie.Need-enum-told-2
+enum-told-2 c = search needs
 
-span-requires : tie.Need-span-requires
-span-requires c κs = search needs
+enum-told-3 : tie.Need-enum-told-3
+enum-told-3 c = search needs
+
+enum-told-4 : tie.Need-enum-told-4
+enum-told-4 c = search needs
 
 returns-2 : tie.Need-returns-2
 unfolding goesIn
-returns-2 c = λ word. rw (ne-eqb _ _ (c .before .before .before .before .before .before .if1 .left)) (rw (c .before .span .ensures, c .before .before .coordinate .ensures, c .before .before .before .remainder .ensures, c .before .before .before .before .quotient .ensures, c .before .before .before .before .before .wide .ensures .0, c .before .before .before .before .before .before .before .pre .1 .0 .scaled, distance-by-digit (c .before .before .before .before .before .before .before .args .t) (side-known (c .before .before .before .before .before .before .before .args .t .side) (c .before .before .before .before .before .before .before .pre .0) .least) (c .before .before .before .before .before .before .before .args .aim) (c .before .before .before .before .before .before .before .args .at) (c .before .before .before .before .before .before .before .pre .1 .1)))
+returns-2 c = λ word. rw (ne-eqb _ _ (c .before .before .before .if1 .left), c .before .before .before .before .pre .1 .2, c .before .before .before .before .pre .1 .1, c .before .before .wide .ensures .0, c .enum-told .given .1) (rw (c .enum-told .given .1) at (goes-by-limit (c .before .before .before .before .args .t) (side-known (c .before .before .before .before .args .t .side) (c .before .before .before .before .pre .0)) (c .before .before .before .before .args .aim) (omega (arith, c .before .before .wide .ensures .0, c .before .before .wide .ensures .1)) (c .before .before .before .before .args .at) (c .before .before .before .before .pre .1 .0) (coordinate-in (side-known (c .before .before .before .before .args .t .side) (c .before .before .before .before .pre .0)) (c .before .before .before .before .args .t .way) (c .before .before .before .before .args .at) (c .before .before .before .before .pre .1 .0))))
+
+returns-3 : tie.Need-returns-3
+unfolding goesIn
+returns-3 c = λ word. rw (ne-eqb _ _ (c .before .before .before .if1 .left), c .before .before .before .before .pre .1 .2, c .before .before .before .before .pre .1 .1, c .before .before .wide .ensures .0, c .enum-told2 .given .1) (rw (c .enum-told2 .given .1) at (goes-by-limit (c .before .before .before .before .args .t) (side-known (c .before .before .before .before .args .t .side) (c .before .before .before .before .pre .0)) (c .before .before .before .before .args .aim) (omega (arith, c .before .before .wide .ensures .0, c .before .before .wide .ensures .1)) (c .before .before .before .before .args .at) (c .before .before .before .before .pre .1 .0) (coordinate-in (side-known (c .before .before .before .before .args .t .side) (c .before .before .before .before .pre .0)) (c .before .before .before .before .args .t .way) (c .before .before .before .before .args .at) (c .before .before .before .before .pre .1 .0))))
+
+returns-4 : tie.Need-returns-4
+unfolding goesIn
+returns-4 c = λ word. rw (ne-eqb _ _ (c .before .before .before .if1 .left), c .before .before .before .before .pre .1 .2, c .before .before .before .before .pre .1 .1, c .before .before .wide .ensures .0, c .enum-told3 .given .1) (rw (c .enum-told3 .given .1) at (goes-by-limit (c .before .before .before .before .args .t) (side-known (c .before .before .before .before .args .t .side) (c .before .before .before .before .pre .0)) (c .before .before .before .before .args .aim) (omega (arith, c .before .before .wide .ensures .0, c .before .before .wide .ensures .1)) (c .before .before .before .before .args .at) (c .before .before .before .before .pre .1 .0) (coordinate-in (side-known (c .before .before .before .before .args .t .side) (c .before .before .before .before .pre .0)) (c .before .before .before .before .args .t .way) (c .before .before .before .before .args .at) (c .before .before .before .before .pre .1 .0))))
+
+returns-5 : tie.Need-returns-5
+unfolding goesIn
+returns-5 c = λ word. rw (ne-eqb _ _ (c .before .before .before .if1 .left), c .before .before .before .before .pre .1 .2, c .before .before .before .before .pre .1 .1, c .before .before .wide .ensures .0, c .enum-told4 .given .1) (rw (c .enum-told4 .given .1) at (goes-by-limit (c .before .before .before .before .args .t) (side-known (c .before .before .before .before .args .t .side) (c .before .before .before .before .pre .0)) (c .before .before .before .before .args .aim) (omega (arith, c .before .before .wide .ensures .0, c .before .before .wide .ensures .1)) (c .before .before .before .before .args .at) (c .before .before .before .before .pre .1 .0) (coordinate-in (side-known (c .before .before .before .before .args .t .side) (c .before .before .before .before .pre .0)) (c .before .before .before .before .args .t .way) (c .before .before .before .before .args .at) (c .before .before .before .before .pre .1 .0))))
 
 pub goes-spec : {M : Type 1} → statement M
 goes-spec =
@@ -40,8 +54,12 @@ goes-spec =
     (tie.spec
     returns
     wide-requires
-    quotient-requires
-    remainder-requires
-    coordinate-requires
-    span-requires
-    returns-2)
+    mul-along
+    enum-told
+    enum-told-2
+    enum-told-3
+    enum-told-4
+    returns-2
+    returns-3
+    returns-4
+    returns-5)

@@ -11,13 +11,13 @@ use Rattle.mesh.proofs.moving.move_part.Statement.{statement}
 use Rattle.mesh.proofs.moving.move_part.Tie as tie
 
 mul-end : tie.Need-mul-end
-mul-end c = omega (arith, side-known (c .before .before .before .before .before .before .before .args .t .side) (c .before .before .before .before .before .before .before .pre .0))
+mul-end c = search needs
 
 add-end : tie.Need-add-end
-add-end c = omega (arith, side-known (c .before .before .before .before .before .before .before .args .t .side) (c .before .before .before .before .before .before .before .pre .0), c .before .before .before .before .before .before .before .pre .1 .0)
+add-end c = search needs
 
 mul-move-group : tie.Need-mul-move-group
-mul-move-group c = omega (arith, side-known (c .before .before .before .before .before .before .before .args .t .side) (c .before .before .before .before .before .before .before .pre .0), c .before .before .before .before .before .before .before .pre .1 .0)
+mul-move-group c = search needs
 
 sub-move-group : tie.Need-sub-move-group
 sub-move-group c = search needs
@@ -26,7 +26,7 @@ part-move-group-start : tie.Need-part-move-group-start
 part-move-group-start c = search needs
 
 part-move-group-end : tie.Need-part-move-group-end
-part-move-group-end c = omega (arith, c .before .before .before .before .before .before .before .pre .1 .1 .1, c .before .before .before .before .before .before .before .pre .1 .0)
+part-move-group-end c = search needs
 
 sub-move-group-2 : tie.Need-sub-move-group-2
 sub-move-group-2 c = search needs
@@ -35,10 +35,10 @@ part-move-group-start-2 : tie.Need-part-move-group-start-2
 part-move-group-start-2 c = search needs
 
 part-move-group-end-2 : tie.Need-part-move-group-end-2
-part-move-group-end-2 c = omega (arith, c .before .before .before .before .before .before .before .before .pre .1 .1 .1, c .before .before .before .before .before .before .before .before .pre .1 .0)
+part-move-group-end-2 c = search needs
 
 mul-move-group-2 : tie.Need-mul-move-group-2
-mul-move-group-2 c = omega (arith, side-known (c .before .before .before .before .before .before .before .before .before .args .t .side) (c .before .before .before .before .before .before .before .before .before .pre .0), c .before .before .before .before .before .before .before .before .before .pre .1 .0)
+mul-move-group-2 c = search needs
 
 sub-move-group-3 : tie.Need-sub-move-group-3
 sub-move-group-3 c = search needs
@@ -47,10 +47,10 @@ part-move-group-start-3 : tie.Need-part-move-group-start-3
 part-move-group-start-3 c = search needs
 
 part-move-group-end-3 : tie.Need-part-move-group-end-3
-part-move-group-end-3 c = omega (arith, c .before .before .before .before .before .before .before .before .before .pre .1 .1 .1, c .before .before .before .before .before .before .before .before .before .pre .1 .0)
+part-move-group-end-3 c = search needs
 
 mul-move-group-3 : tie.Need-mul-move-group-3
-mul-move-group-3 c = omega (arith, side-known (c .before .before .before .before .before .before .before .before .before .before .args .t .side) (c .before .before .before .before .before .before .before .before .before .before .pre .0), c .before .before .before .before .before .before .before .before .before .before .pre .1 .0)
+mul-move-group-3 c = search needs
 
 sub-move-group-4 : tie.Need-sub-move-group-4
 sub-move-group-4 c = search needs
@@ -59,7 +59,7 @@ part-move-group-start-4 : tie.Need-part-move-group-start-4
 part-move-group-start-4 c = search needs
 
 part-move-group-end-4 : tie.Need-part-move-group-end-4
-part-move-group-end-4 c = omega (arith, c .before .before .before .before .before .before .before .before .before .before .pre .1 .1 .1, c .before .before .before .before .before .before .before .before .before .before .pre .1 .0)
+part-move-group-end-4 c = search needs
 
 sub-move-group-5 : tie.Need-sub-move-group-5
 sub-move-group-5 c = search needs
@@ -68,10 +68,10 @@ part-move-group-start-5 : tie.Need-part-move-group-start-5
 part-move-group-start-5 c = search needs
 
 part-move-group-end-5 : tie.Need-part-move-group-end-5
-part-move-group-end-5 c = omega (arith, c .before .before .before .before .before .before .before .before .before .before .before .pre .1 .1 .1, c .before .before .before .before .before .before .before .before .before .before .before .pre .1 .0)
+part-move-group-end-5 c = search needs
 
 mul-move-group-4 : tie.Need-mul-move-group-4
-mul-move-group-4 c = omega (arith, side-known (c .before .before .before .before .before .before .before .before .before .before .before .before .args .t .side) (c .before .before .before .before .before .before .before .before .before .before .before .before .pre .0), c .before .before .before .before .before .before .before .before .before .before .before .before .pre .1 .0)
+mul-move-group-4 c = search needs
 
 sub-move-group-6 : tie.Need-sub-move-group-6
 sub-move-group-6 c = search needs
@@ -80,11 +80,10 @@ part-move-group-start-6 : tie.Need-part-move-group-start-6
 part-move-group-start-6 c = search needs
 
 part-move-group-end-6 : tie.Need-part-move-group-end-6
-part-move-group-end-6 c = omega (arith, c .before .before .before .before .before .before .before .before .before .before .before .before .pre .1 .1 .1, c .before .before .before .before .before .before .before .before .before .before .before .before .pre .1 .0)
+part-move-group-end-6 c = search needs
 
 move-group-requires : tie.Need-move-group-requires
-move-group-requires c κs =
-    let s = c .before .before .before .before .before .before .before .before .before .before .before .before .before in
+move-group-requires c κs = let s = c .before .before .before .before .before .before .before .before .before .before .before .before .before .before in
     let n = groups (s .args .t .side) in
     let b = s .args .base in
     let k : b + n - b ≡ n = omega arith in
@@ -110,17 +109,16 @@ same-length-6 : tie.Need-same-length-6
 same-length-6 c = search needs
 
 returns : tie.Need-returns
-returns c =
-    let s = c .before .before .before .before .before .before .before .before .before .before .before .before .before .before .before .before .before .before .before .before .before .before .before .before .before .before in
+returns c = let s = c .before .before .before .before .before .before .before .before .before .before .before .before .before .before .before .before .before .before .before .before .before .before .before .before .before .before .before in
     let n = groups (s .args .t .side) in
     let b = s .args .base in
     let g = c .before .before .before .before .before .before .before .before .before .before .before .before .move-group in
     let k : b + n - b ≡ n = omega arith in
     let f : b + (b + n - b) ≤ cells (s .args .t .side) = omega (arith, s .pre .1 .0) in
     let z = part-sized b (b + n - b) (s .pre .1 .1 .1) f in
-    let l = g .last .1 in
+    let l = g .last .1 .1 .1 in
     let y : Sized (b + n - b) (l .0) (l .1 .0) (l .1 .1 .0) (l .1 .1 .1 .0) (l .1 .1 .1 .1 .0) (l .1 .1 .1 .1 .1 .0) = omega (arith, z, g .kept) in
-    part-moved (s .args .t) (side-known (s .args .t .side) (s .pre .0) .least) (s .pre .1 .1 .0 .0) b (b + n - b) (s .pre .1 .1 .1) f k (s .pre .1 .1 .0 .1) y (g .ensures)
+    part-moved (s .args .t) (side-known (s .args .t .side) (s .pre .0 .side) .least) (s .pre .1 .1 .0 .0) b (b + n - b) (s .pre .1 .1 .1) f k (s .pre .1 .1 .0 .1) y (g .ensures)
 
 pub move-part-spec : {M : Type 1} → statement M
 move-part-spec =
