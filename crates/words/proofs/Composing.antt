@@ -15,7 +15,7 @@ use Rattle.laws.proofs.Numbers.{square-grows, fourth-grows}
 use Rattle.laws.proofs.Tables.{entries-all, entry-at}
 use Rattle.array.specs.declared.moves.Way.the-variants.{Right, Left, Up, Down}
 use Rattle.array.specs.declared.moves.Way.{Way}
-use Rattle.array.specs.declared.shifts.Edge.{Edge}
+use Rattle.shifts.specs.declared.Edge.{Edge}
 use Rattle.array.specs.Cells.{isSide, groups, cells, group, place, row, column, partner}
 use Rattle.array.specs.Moves.{opposite}
 use Rattle.array.proofs.Board.{place-of, side-known}

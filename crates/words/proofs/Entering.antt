@@ -11,16 +11,16 @@ use lib.ListN.{length, getD}
 use lib.Seq.{sets}
 use borrow.Author.Tests.{ltb-true}
 use Rattle.laws.proofs.Bools.{both-left, both-right}
-use Rattle.array.specs.declared.answers.Answer.{Answer}
-use Rattle.array.specs.declared.moves.Run.{Run}
-use Rattle.array.specs.declared.shifts.Axis.{Axis}
-use Rattle.array.specs.declared.shifts.Edge.{Edge}
-use Rattle.array.specs.declared.shifts.Edge.the-variants.{ZeroFill, Circular}
-use Rattle.array.specs.declared.shifts.Distance.{Distance}
+use Rattle.answers.specs.declared.Answer.{Answer}
+use Rattle.logs.specs.declared.Run.{Run}
+use Rattle.shifts.specs.declared.Axis.{Axis}
+use Rattle.shifts.specs.declared.Edge.{Edge}
+use Rattle.shifts.specs.declared.Edge.the-variants.{ZeroFill, Circular}
+use Rattle.shifts.specs.declared.Distance.{Distance}
 use Rattle.array.specs.Cells.{groups}
-use Rattle.array.specs.Moves.{codes}
-use Rattle.array.specs.Lists.{broadcastRuns, dataSumRuns, prefixSumRuns}
-use Rattle.array.specs.Shifts.{distanceOf, within, modulo, forthMoves, backMoves, shiftRuns}
+use Rattle.logs.specs.Runs.{codes}
+use Rattle.lists.specs.Lists.{broadcastRuns, dataSumRuns, prefixSumRuns}
+use Rattle.shifts.specs.Shifts.{distanceOf, within, modulo, forthMoves, backMoves, shiftRuns}
 use Rattle.words.specs.Machine.{made, load, unload}
 use Rattle.words.specs.Programs.{broadcast, dataSum, prefixed}
 use Rattle.words.specs.Inside.{Moved, shiftOn}

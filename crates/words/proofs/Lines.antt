@@ -9,7 +9,7 @@ use lib.Arith.{le-zero}
 use borrow.Author.Tests.{eq-eqb, ne-eqb, lt-ltb}
 use Rattle.array.specs.declared.moves.Way.{Way}
 use Rattle.array.specs.declared.moves.Way.the-variants.{Right, Left, Up, Down}
-use Rattle.array.specs.Moves.{along}
+use Rattle.logs.specs.Runs.{along}
 use Rattle.words.specs.Machine.{State, Rule, Stage, fromBefore, fromAfter, ran, all}
 use Rattle.words.specs.Programs.{front, from, word}
 

@@ -8,8 +8,8 @@ use native.Mathlib.Nat.{zero-add, add-comm, add-mod, mod-eq-of-lt}
 use lib.ListN.{getD}
 use Rattle.laws.specs.Sums.{sum}
 use Rattle.array.specs.Cells.{cells, group, row, column}
-use Rattle.array.specs.Moves.{moves}
-use Rattle.array.specs.Lists.{broadcastList, dataSumRuns}
+use Rattle.logs.specs.Runs.{moves}
+use Rattle.lists.specs.Lists.{broadcastList, dataSumRuns}
 use Rattle.array.specs.declared.moves.Way.the-variants.{Right, Left, Up, Down}
 use Rattle.words.specs.Machine.{State, Rule, fromBefore, fromAfter, all, made, runsOf, at, load, unload}
 use Rattle.words.specs.Programs.{front, word, copy, plus, spread, broadcast, groupSum, dataSum}

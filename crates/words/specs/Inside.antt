@@ -10,11 +10,12 @@ use Rattle.laws.specs.Tables.{entries}
 use Rattle.array.specs.declared.moves.Way.{Way}
 use Rattle.array.specs.declared.moves.Way.the-variants.{Right, Left, Up, Down}
 use Rattle.array.specs.declared.moves.Move.the-variants.{Electronic}
-use Rattle.array.specs.declared.shifts.Axis.{Axis}
-use Rattle.array.specs.declared.shifts.Axis.the-variants.{MeshRow, MeshColumn, GroupRow, GroupColumn}
-use Rattle.array.specs.declared.shifts.Edge.{Edge}
+use Rattle.shifts.specs.declared.Axis.{Axis}
+use Rattle.shifts.specs.declared.Axis.the-variants.{MeshRow, MeshColumn, GroupRow, GroupColumn}
+use Rattle.shifts.specs.declared.Edge.{Edge}
 use Rattle.array.specs.Cells.{groups, cells, place, row, column}
-use Rattle.array.specs.Moves.{along, opposite}
+use Rattle.array.specs.Moves.{opposite}
+use Rattle.logs.specs.Runs.{along}
 use Rattle.words.specs.declared.lanes.Combining.{Combining}
 use Rattle.words.specs.declared.lanes.Combining.the-variants.{Take, Plus, Minus}
 use Rattle.words.specs.declared.slides.Spot.{Spot}

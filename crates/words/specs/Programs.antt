@@ -6,13 +6,14 @@ use mathlib.Core.List.{List, [], _∷_, _++_}
 use lib.Dec.{ltb, eqb}
 use Rattle.array.specs.declared.moves.Way.{Way}
 use Rattle.array.specs.declared.moves.Way.the-variants.{Right, Left, Up, Down}
-use Rattle.array.specs.declared.shifts.Axis.{Axis}
-use Rattle.array.specs.declared.shifts.Edge.{Edge}
-use Rattle.array.specs.declared.shifts.Edge.the-variants.{ZeroFill, Circular}
+use Rattle.shifts.specs.declared.Axis.{Axis}
+use Rattle.shifts.specs.declared.Edge.{Edge}
+use Rattle.shifts.specs.declared.Edge.the-variants.{ZeroFill, Circular}
 use Rattle.array.specs.Cells.{group, place, row, column}
-use Rattle.array.specs.Moves.{along, swapping, opposite}
-use Rattle.array.specs.declared.shifts.Distance.{Distance}
-use Rattle.array.specs.Shifts.{forthMoves, backMoves, forthWay, swapsOf}
+use Rattle.array.specs.Moves.{opposite}
+use Rattle.logs.specs.Runs.{along, swapping}
+use Rattle.shifts.specs.declared.Distance.{Distance}
+use Rattle.shifts.specs.Shifts.{forthMoves, backMoves, forthWay, swapsOf}
 use Rattle.words.specs.Machine.{State, Stage, made}
 
 -- the position of the cell in row a and column b on the line that a way goes along

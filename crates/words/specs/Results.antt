@@ -8,13 +8,13 @@ use lib.ListN.{getD, replicate}
 use lib.Dec.{ltb}
 use Rattle.laws.specs.Sums.{sumOf}
 use Rattle.laws.specs.Tables.{entries}
-use Rattle.array.specs.declared.shifts.Axis.{Axis}
-use Rattle.array.specs.declared.shifts.Axis.the-variants.{MeshRow, MeshColumn, GroupRow, GroupColumn}
-use Rattle.array.specs.declared.shifts.Edge.{Edge}
-use Rattle.array.specs.declared.shifts.Edge.the-variants.{ZeroFill, Circular}
+use Rattle.shifts.specs.declared.Axis.{Axis}
+use Rattle.shifts.specs.declared.Axis.the-variants.{MeshRow, MeshColumn, GroupRow, GroupColumn}
+use Rattle.shifts.specs.declared.Edge.{Edge}
+use Rattle.shifts.specs.declared.Edge.the-variants.{ZeroFill, Circular}
 use Rattle.array.specs.Cells.{cells}
-use Rattle.array.specs.declared.shifts.Distance.{Distance}
-use Rattle.array.specs.Shifts.{distanceOf, modulo}
+use Rattle.shifts.specs.declared.Distance.{Distance}
+use Rattle.shifts.specs.Shifts.{distanceOf, modulo}
 use Rattle.words.specs.Machine.{State, load, unload}
 
 -- every word is that of cell i

@@ -6,9 +6,9 @@ use Rattle.words.proofs.broadcast.Statement.{statement}
 use Rattle.words.proofs.broadcast.Tie as tie
 use Rattle.words.proofs.broadcast.Reads as reads
 use Rattle.words.proofs.broadcast.Lts as lts
-use Rattle.array.proofs.lists.broadcast_runs.Reads as broadcast-runs-reads
-use Rattle.array.proofs.logs.write_codes.Reads as write-codes-reads
-use Rattle.words.proofs.answers.broadcast_answer.Reads as broadcast-answer-reads
+use Rattle.lists.proofs.broadcast_runs.Reads as broadcast-runs-reads
+use Rattle.logs.proofs.write_codes.Reads as write-codes-reads
+use Rattle.words.proofs.judging.broadcast_answer.Reads as broadcast-answer-reads
 use Rattle.words.proofs.spreads.spread_all.Reads as spread-all-reads
 
 broadcast-answer-requires : tie.Need-broadcast-answer-requires

@@ -6,9 +6,9 @@ use Rattle.words.proofs.data_sum.Statement.{statement}
 use Rattle.words.proofs.data_sum.Tie as tie
 use Rattle.words.proofs.data_sum.Reads as reads
 use Rattle.words.proofs.data_sum.Lts as lts
-use Rattle.array.proofs.lists.data_sum_runs.Reads as data-sum-runs-reads
-use Rattle.array.proofs.logs.write_codes.Reads as write-codes-reads
-use Rattle.words.proofs.answers.data_sum_answer.Reads as data-sum-answer-reads
+use Rattle.lists.proofs.data_sum_runs.Reads as data-sum-runs-reads
+use Rattle.logs.proofs.write_codes.Reads as write-codes-reads
+use Rattle.words.proofs.judging.data_sum_answer.Reads as data-sum-answer-reads
 use Rattle.words.proofs.sums.sum_all.Reads as sum-all-reads
 
 data-sum-answer-requires : tie.Need-data-sum-answer-requires

@@ -14,7 +14,7 @@ use Rattle.words.proofs.group_words.Statement.{statement}
 use Rattle.words.proofs.group_words.Tie as tie
 use Rattle.words.proofs.group_words.Reads as reads
 use Rattle.words.proofs.group_words.Lts as lts
-use Rattle.words.proofs.answers.group_answer.Reads as group-answer-reads
+use Rattle.words.proofs.judging.group_answer.Reads as group-answer-reads
 
 group-answer-requires : tie.Need-group-answer-requires
 group-answer-requires c κs = search needs

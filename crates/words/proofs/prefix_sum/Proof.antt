@@ -6,9 +6,9 @@ use Rattle.words.proofs.prefix_sum.Statement.{statement}
 use Rattle.words.proofs.prefix_sum.Tie as tie
 use Rattle.words.proofs.prefix_sum.Reads as reads
 use Rattle.words.proofs.prefix_sum.Lts as lts
-use Rattle.array.proofs.lists.prefix_sum_runs.Reads as prefix-sum-runs-reads
-use Rattle.array.proofs.logs.write_codes.Reads as write-codes-reads
-use Rattle.words.proofs.answers.prefix_sum_answer.Reads as prefix-sum-answer-reads
+use Rattle.lists.proofs.prefix_sum_runs.Reads as prefix-sum-runs-reads
+use Rattle.logs.proofs.write_codes.Reads as write-codes-reads
+use Rattle.words.proofs.judging.prefix_sum_answer.Reads as prefix-sum-answer-reads
 use Rattle.words.proofs.sums.sum_up.Reads as sum-up-reads
 
 prefix-sum-answer-requires : tie.Need-prefix-sum-answer-requires

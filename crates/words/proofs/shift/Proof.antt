@@ -4,7 +4,7 @@ use mir.Syntax.{w32}
 use mir.ValLaws.{toZ-ofZ}
 use lib.IntN.{ℤ}
 use lib.ListN.{length}
-use Rattle.array.specs.Shifts.{shiftRuns}
+use Rattle.shifts.specs.Shifts.{shiftRuns}
 use Rattle.words.specs.Entries.{shiftAnswer}
 use Rattle.words.proofs.Answering.{shift-room, entry-refused}
 use Rattle.words.proofs.Entering.{shift-done, forth-times, home-times, forth-few, back-few}
@@ -13,9 +13,9 @@ use Rattle.words.proofs.shift.Statement.{statement}
 use Rattle.words.proofs.shift.Tie as tie
 use Rattle.words.proofs.shift.Reads as reads
 use Rattle.words.proofs.shift.Lts as lts
-use Rattle.array.proofs.logs.write_codes.Reads as write-codes-reads
-use Rattle.array.proofs.shifts.shift_runs.Reads as shift-runs-reads
-use Rattle.words.proofs.answers.shift_answer.Reads as shift-answer-reads
+use Rattle.logs.proofs.write_codes.Reads as write-codes-reads
+use Rattle.shifts.proofs.shift_runs.Reads as shift-runs-reads
+use Rattle.words.proofs.judging.shift_answer.Reads as shift-answer-reads
 use Rattle.words.proofs.slides.shift_all.Reads as shift-all-reads
 
 shift-answer-requires : tie.Need-shift-answer-requires

@@ -1,14 +1,14 @@
--- `words::answers::judged` meets its contract: three cases, one after the other.
+-- `words::judging::judged` meets its contract: three cases, one after the other.
 use Rattle.words.proofs.Answering.{three-cases}
 use borrow.Author.Needs.{needs}
-use Rattle.words.proofs.answers.judged.Statement.{statement}
-use Rattle.words.proofs.answers.judged.Tie as tie
-use Rattle.words.proofs.answers.judged.Reads as reads
-use Rattle.words.proofs.answers.judged.Lts as lts
-use Rattle.array.proofs.answers.lane_case.Reads as lane-case-reads
-use Rattle.array.proofs.answers.refusing.Reads as refusing-reads
-use Rattle.array.proofs.answers.side_case.Reads as side-case-reads
-use Rattle.array.proofs.logs.log_case.Reads as log-case-reads
+use Rattle.words.proofs.judging.judged.Statement.{statement}
+use Rattle.words.proofs.judging.judged.Tie as tie
+use Rattle.words.proofs.judging.judged.Reads as reads
+use Rattle.words.proofs.judging.judged.Lts as lts
+use Rattle.answers.proofs.lane_case.Reads as lane-case-reads
+use Rattle.answers.proofs.refusing.Reads as refusing-reads
+use Rattle.answers.proofs.side_case.Reads as side-case-reads
+use Rattle.answers.proofs.log_case.Reads as log-case-reads
 
 side-case-requires : tie.Need-side-case-requires
 side-case-requires c κs = search needs

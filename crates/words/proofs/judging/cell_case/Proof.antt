@@ -1,9 +1,9 @@
--- `words::answers::cell_case` meets its contract: the test is that of the array.
+-- `words::judging::cell_case` meets its contract: the test is that of the array.
 use borrow.Author.Needs.{needs}
-use Rattle.words.proofs.answers.cell_case.Statement.{statement}
-use Rattle.words.proofs.answers.cell_case.Tie as tie
-use Rattle.words.proofs.answers.cell_case.Reads as reads
-use Rattle.words.proofs.answers.cell_case.Lts as lts
+use Rattle.words.proofs.judging.cell_case.Statement.{statement}
+use Rattle.words.proofs.judging.cell_case.Tie as tie
+use Rattle.words.proofs.judging.cell_case.Reads as reads
+use Rattle.words.proofs.judging.cell_case.Lts as lts
 use Rattle.array.proofs.cells.is_cell.Reads as is-cell-reads
 
 is-cell-requires : tie.Need-is-cell-requires

@@ -1,19 +1,19 @@
--- `words::answers::group_answer` meets its contract: the three cases in their order.
+-- `words::judging::group_answer` meets its contract: the three cases in their order.
 use mathlib.Core.Path.{_∙_, ap}
 use mathlib.Core.List.{[], _∷_}
-use Rattle.array.specs.Answers.{verdict, sideCase, laneCase}
+use Rattle.answers.specs.Answers.{verdict, sideCase, laneCase}
 use Rattle.words.specs.Entries.{groupCase}
 use Rattle.words.proofs.Answering.{three-cases}
 use borrow.Author.Needs.{needs}
-use Rattle.words.proofs.answers.group_answer.Statement.{statement}
-use Rattle.words.proofs.answers.group_answer.Tie as tie
-use Rattle.words.proofs.answers.group_answer.Reads as reads
-use Rattle.words.proofs.answers.group_answer.Lts as lts
-use Rattle.array.proofs.answers.accepted.Reads as accepted-reads
-use Rattle.array.proofs.answers.lane_case.Reads as lane-case-reads
-use Rattle.array.proofs.answers.refusing.Reads as refusing-reads
-use Rattle.array.proofs.answers.side_case.Reads as side-case-reads
-use Rattle.words.proofs.answers.group_case.Reads as group-case-reads
+use Rattle.words.proofs.judging.group_answer.Statement.{statement}
+use Rattle.words.proofs.judging.group_answer.Tie as tie
+use Rattle.words.proofs.judging.group_answer.Reads as reads
+use Rattle.words.proofs.judging.group_answer.Lts as lts
+use Rattle.answers.proofs.accepted.Reads as accepted-reads
+use Rattle.answers.proofs.lane_case.Reads as lane-case-reads
+use Rattle.answers.proofs.refusing.Reads as refusing-reads
+use Rattle.answers.proofs.side_case.Reads as side-case-reads
+use Rattle.words.proofs.judging.group_case.Reads as group-case-reads
 
 side-case-requires : tie.Need-side-case-requires
 side-case-requires c κs = search needs

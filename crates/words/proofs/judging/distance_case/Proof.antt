@@ -1,13 +1,13 @@
--- `words::answers::distance_case` meets its contract: the test is that of the array, on the distance as the machine reads it.
+-- `words::judging::distance_case` meets its contract: the test is that of the array, on the distance as the machine reads it.
 use mir.Syntax.{w32}
 use mir.ValLaws.{toZ-ofZ}
 use borrow.Author.Needs.{needs}
-use Rattle.words.proofs.answers.distance_case.Statement.{statement}
-use Rattle.words.proofs.answers.distance_case.Tie as tie
-use Rattle.words.proofs.answers.distance_case.Reads as reads
-use Rattle.words.proofs.answers.distance_case.Lts as lts
-use Rattle.array.proofs.shifts.distance_of.Reads as distance-of-reads
-use Rattle.array.proofs.shifts.is_within.Reads as is-within-reads
+use Rattle.words.proofs.judging.distance_case.Statement.{statement}
+use Rattle.words.proofs.judging.distance_case.Tie as tie
+use Rattle.words.proofs.judging.distance_case.Reads as reads
+use Rattle.words.proofs.judging.distance_case.Lts as lts
+use Rattle.shifts.proofs.distance_of.Reads as distance-of-reads
+use Rattle.shifts.proofs.is_within.Reads as is-within-reads
 
 distance-of-requires : tie.Need-distance-of-requires
 distance-of-requires c κs = search needs

@@ -1,15 +1,15 @@
--- `words::answers::broadcast_answer` meets its contract: the four cases in their order, and the counts of the list.
+-- `words::judging::broadcast_answer` meets its contract: the four cases in their order, and the counts of the list.
 use Rattle.words.proofs.Answering.{broadcast-counts}
 use borrow.Author.Needs.{needs}
-use Rattle.words.proofs.answers.broadcast_answer.Statement.{statement}
-use Rattle.words.proofs.answers.broadcast_answer.Tie as tie
-use Rattle.words.proofs.answers.broadcast_answer.Reads as reads
-use Rattle.words.proofs.answers.broadcast_answer.Lts as lts
-use Rattle.array.proofs.answers.refusing.Reads as refusing-reads
-use Rattle.array.proofs.lists.broadcast_runs.Reads as broadcast-runs-reads
-use Rattle.array.proofs.logs.accepted_by.Reads as accepted-by-reads
-use Rattle.words.proofs.answers.cell_case.Reads as cell-case-reads
-use Rattle.words.proofs.answers.judged.Reads as judged-reads
+use Rattle.words.proofs.judging.broadcast_answer.Statement.{statement}
+use Rattle.words.proofs.judging.broadcast_answer.Tie as tie
+use Rattle.words.proofs.judging.broadcast_answer.Reads as reads
+use Rattle.words.proofs.judging.broadcast_answer.Lts as lts
+use Rattle.answers.proofs.refusing.Reads as refusing-reads
+use Rattle.lists.proofs.broadcast_runs.Reads as broadcast-runs-reads
+use Rattle.answers.proofs.accepted_by.Reads as accepted-by-reads
+use Rattle.words.proofs.judging.cell_case.Reads as cell-case-reads
+use Rattle.words.proofs.judging.judged.Reads as judged-reads
 
 broadcast-runs-requires : tie.Need-broadcast-runs-requires
 broadcast-runs-requires c κs = search needs

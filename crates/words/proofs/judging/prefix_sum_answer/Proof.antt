@@ -1,13 +1,13 @@
--- `words::answers::prefix_sum_answer` meets its contract: the three cases in their order, and the counts of the list.
+-- `words::judging::prefix_sum_answer` meets its contract: the three cases in their order, and the counts of the list.
 use Rattle.words.proofs.Answering.{prefix-sum-counts}
 use borrow.Author.Needs.{needs}
-use Rattle.words.proofs.answers.prefix_sum_answer.Statement.{statement}
-use Rattle.words.proofs.answers.prefix_sum_answer.Tie as tie
-use Rattle.words.proofs.answers.prefix_sum_answer.Reads as reads
-use Rattle.words.proofs.answers.prefix_sum_answer.Lts as lts
-use Rattle.array.proofs.lists.prefix_sum_runs.Reads as prefix-sum-runs-reads
-use Rattle.array.proofs.logs.accepted_by.Reads as accepted-by-reads
-use Rattle.words.proofs.answers.judged.Reads as judged-reads
+use Rattle.words.proofs.judging.prefix_sum_answer.Statement.{statement}
+use Rattle.words.proofs.judging.prefix_sum_answer.Tie as tie
+use Rattle.words.proofs.judging.prefix_sum_answer.Reads as reads
+use Rattle.words.proofs.judging.prefix_sum_answer.Lts as lts
+use Rattle.lists.proofs.prefix_sum_runs.Reads as prefix-sum-runs-reads
+use Rattle.answers.proofs.accepted_by.Reads as accepted-by-reads
+use Rattle.words.proofs.judging.judged.Reads as judged-reads
 
 prefix-sum-runs-requires : tie.Need-prefix-sum-runs-requires
 prefix-sum-runs-requires c κs = search needs

@@ -1,27 +1,27 @@
 // How the entries on words answer: the cases of each in the order of their numbers.
-use array::answers::Answer;
-use array::answers::Case;
-use array::answers::accepted;
-use array::answers::lane_case;
-use array::answers::refusing;
-use array::answers::side_case;
+use answers::Answer;
+use answers::Case;
+use answers::accepted;
+use answers::accepted_by;
+use answers::lane_case;
+use answers::log_case;
+use answers::refusing;
+use answers::side_case;
 use array::cells::is_cell;
-use array::lists::broadcast_runs;
-use array::lists::data_sum_runs;
-use array::lists::prefix_sum_runs;
-use array::logs::accepted_by;
-use array::logs::log_case;
-use array::moves::Run;
-use array::shifts::Axis;
-use array::shifts::Edge;
-use array::shifts::distance_of;
-use array::shifts::is_within;
-use array::shifts::shift_runs;
+use lists::broadcast_runs;
+use lists::data_sum_runs;
+use lists::prefix_sum_runs;
+use logs::Run;
+use shifts::Axis;
+use shifts::Edge;
+use shifts::distance_of;
+use shifts::is_within;
+use shifts::shift_runs;
 ghost use mathlib.Core.Path.{_≡_};
 ghost use mathlib.Core.List.{[], _∷_};
 ghost use lib.Dec.{ltb};
 ghost use Rattle.array.specs.Cells.{groups};
-ghost use Rattle.array.specs.Answers.{verdict, sideCase, laneCase, logCase};
+ghost use Rattle.answers.specs.Answers.{verdict, sideCase, laneCase, logCase};
 ghost use Rattle.words.specs.Entries.{cellCase, distanceCase, groupCase, broadcastAnswer, dataSumAnswer, prefixSumAnswer, shiftAnswer, groupAnswer};
 
 // The cases that every operation on a lane and a log has; and else the other answer.

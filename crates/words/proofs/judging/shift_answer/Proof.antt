@@ -1,17 +1,17 @@
--- `words::answers::shift_answer` meets its contract: the four cases in their order, and the counts of the list.
+-- `words::judging::shift_answer` meets its contract: the four cases in their order, and the counts of the list.
 use mir.Syntax.{w32}
 use mir.ValLaws.{toZ-ofZ}
 use Rattle.words.proofs.Answering.{shift-counts}
 use borrow.Author.Needs.{needs}
-use Rattle.words.proofs.answers.shift_answer.Statement.{statement}
-use Rattle.words.proofs.answers.shift_answer.Tie as tie
-use Rattle.words.proofs.answers.shift_answer.Reads as reads
-use Rattle.words.proofs.answers.shift_answer.Lts as lts
-use Rattle.array.proofs.answers.refusing.Reads as refusing-reads
-use Rattle.array.proofs.logs.accepted_by.Reads as accepted-by-reads
-use Rattle.array.proofs.shifts.shift_runs.Reads as shift-runs-reads
-use Rattle.words.proofs.answers.distance_case.Reads as distance-case-reads
-use Rattle.words.proofs.answers.judged.Reads as judged-reads
+use Rattle.words.proofs.judging.shift_answer.Statement.{statement}
+use Rattle.words.proofs.judging.shift_answer.Tie as tie
+use Rattle.words.proofs.judging.shift_answer.Reads as reads
+use Rattle.words.proofs.judging.shift_answer.Lts as lts
+use Rattle.answers.proofs.refusing.Reads as refusing-reads
+use Rattle.answers.proofs.accepted_by.Reads as accepted-by-reads
+use Rattle.shifts.proofs.shift_runs.Reads as shift-runs-reads
+use Rattle.words.proofs.judging.distance_case.Reads as distance-case-reads
+use Rattle.words.proofs.judging.judged.Reads as judged-reads
 
 shift-runs-requires : tie.Need-shift-runs-requires
 shift-runs-requires c κs = search needs

@@ -1,13 +1,13 @@
--- `words::answers::data_sum_answer` meets its contract: the three cases in their order, and the counts of the list.
+-- `words::judging::data_sum_answer` meets its contract: the three cases in their order, and the counts of the list.
 use Rattle.words.proofs.Answering.{data-sum-counts}
 use borrow.Author.Needs.{needs}
-use Rattle.words.proofs.answers.data_sum_answer.Statement.{statement}
-use Rattle.words.proofs.answers.data_sum_answer.Tie as tie
-use Rattle.words.proofs.answers.data_sum_answer.Reads as reads
-use Rattle.words.proofs.answers.data_sum_answer.Lts as lts
-use Rattle.array.proofs.lists.data_sum_runs.Reads as data-sum-runs-reads
-use Rattle.array.proofs.logs.accepted_by.Reads as accepted-by-reads
-use Rattle.words.proofs.answers.judged.Reads as judged-reads
+use Rattle.words.proofs.judging.data_sum_answer.Statement.{statement}
+use Rattle.words.proofs.judging.data_sum_answer.Tie as tie
+use Rattle.words.proofs.judging.data_sum_answer.Reads as reads
+use Rattle.words.proofs.judging.data_sum_answer.Lts as lts
+use Rattle.lists.proofs.data_sum_runs.Reads as data-sum-runs-reads
+use Rattle.answers.proofs.accepted_by.Reads as accepted-by-reads
+use Rattle.words.proofs.judging.judged.Reads as judged-reads
 
 data-sum-runs-requires : tie.Need-data-sum-runs-requires
 data-sum-runs-requires c κs = search needs

@@ -1,0 +1,16 @@
+-- `words::judging::group_case` meets its contract: the test is `is_group`.
+use borrow.Author.Needs.{needs}
+use Rattle.words.proofs.judging.group_case.Statement.{statement}
+use Rattle.words.proofs.judging.group_case.Tie as tie
+use Rattle.words.proofs.judging.group_case.Reads as reads
+use Rattle.words.proofs.judging.group_case.Lts as lts
+use Rattle.words.proofs.judging.is_group.Reads as is-group-reads
+
+is-group-requires : tie.Need-is-group-requires
+is-group-requires c κs = search needs
+
+returns : tie.Need-returns
+returns c = rw (c .is-group .ensures)
+
+pub group-case-spec : {M : Type 1} → statement M
+group-case-spec = tie.close (tie.spec is-group-requires returns)
