@@ -3,8 +3,11 @@ pub mod Answering
 pub mod Composing
 pub mod Coordinates
 pub mod Entering
+pub mod Laying
 pub mod Lines
 pub mod Shifting
+pub mod Spots
+pub mod Spotted
 pub mod Spreading
 pub mod Stepping
 pub mod Sweeping

@@ -1,11 +1,11 @@
 -- What the functions inside the crate do to one lane: a move of a group's own stretch, a move of all groups, a run.
-use Prim.Native.Nat.{ℕ, suc, _+_, _-_, _≤_, _<_}
+use Prim.Native.Nat.{ℕ, suc, _+_, _-_, _*_, _≤_, _<_}
 use mathlib.Core.Path.{_≡_}
 use mathlib.Core.Bool.{Bool, cond, _&&_}
 use mathlib.Core.Option.{Option, none, some}
 use mathlib.Core.List.{List}
 use lib.ListN.{length, getD}
-use lib.Dec.{ltb}
+use lib.Dec.{ltb, eqb}
 use Rattle.laws.specs.Tables.{entries}
 use Rattle.array.specs.declared.moves.Way.{Way}
 use Rattle.array.specs.declared.moves.Way.the-variants.{Right, Left, Up, Down}
@@ -18,8 +18,10 @@ use Rattle.array.specs.Moves.{opposite}
 use Rattle.logs.specs.Runs.{along}
 use Rattle.words.specs.declared.lanes.Combining.{Combining}
 use Rattle.words.specs.declared.lanes.Combining.the-variants.{Take, Plus, Minus}
+use Rattle.words.specs.declared.slides.Spot.{Spot}
 use Rattle.words.specs.declared.steps.Joining.{Joining}
 use Rattle.words.specs.declared.steps.Joining.the-variants.{Add, Copy, Fill}
+use Rattle.words.specs.declared.steps.Line.{Line}
 use Rattle.words.specs.declared.steps.Rule.{Rule}
 use Rattle.words.specs.declared.steps.Source.{Source}
 use Rattle.words.specs.declared.steps.Source.the-variants.{At, Nothing}
@@ -31,6 +33,12 @@ pub record Board (s n : ℕ) : Type 0 where
   pub least : 1 ≤ s
   pub most : s ≤ 8
   pub whole : n ≡ cells s
+
+-- a stretch of n words is a group's on such a board
+pub record Group (s n : ℕ) : Type 0 where
+  pub least : 1 ≤ s
+  pub most : s ≤ 8
+  pub whole : n ≡ groups s
 
 -- the words of l are those of the state σ
 pub record Holds (s : ℕ) (l : List ℕ) (σ : State ℕ) : Type 0 where
@@ -65,12 +73,82 @@ nextOf s w r l i = ruleOf (r .joining) (r .front) (position w (row s i) (column 
 abbrev pub stepped : ℕ → Way → Rule → List ℕ → List ℕ
 stepped s w r l = entries (nextOf s w r l) 0 (groups s)
 
--- the order in which a group's places take their turn: from the far end back
+-- the rule of a move in which every place takes what comes
+abbrev pub filling : Rule
+filling = record { joining = Fill; front = 0 }
+
+-- a group after the turn of the places at position p
+abbrev pub turned : ℕ → Way → Joining → ℕ → List ℕ → List ℕ
+turned s w j p l =
+    entries (λ i. cond (eqb (position w (row s i) (column s i)) p) (nextOf s w (record { joining = j; front = p }) l i) (getD l i 0)) 0 (groups s)
+
+-- the position whose word comes to position p of a line
+abbrev pub behindOf : ℕ → Way → ℕ → Source
+behindOf s Right p = cond (ltb 0 p) (At (p - 1)) Nothing
+behindOf s Left p = cond (ltb (p + 1) s) (At (p + 1)) Nothing
+behindOf s Up p = cond (ltb (p + 1) s) (At (p + 1)) Nothing
+behindOf s Down p = cond (ltb 0 p) (At (p - 1)) Nothing
+
+-- how far apart the places of a line are, and the lines
+abbrev pub alongOf : ℕ → Way → ℕ
+alongOf s Right = 1
+alongOf s Left = 1
+alongOf s Up = s
+alongOf s Down = s
+
+abbrev pub acrossOf : ℕ → Way → ℕ
+acrossOf s Right = s
+acrossOf s Left = s
+acrossOf s Up = 1
+acrossOf s Down = 1
+
+-- the order in which the positions take their turn where all of them do: from the far end back
 abbrev pub orderOf : Way → ℕ → ℕ → ℕ
 orderOf Right n k = n - 1 - k
 orderOf Left n k = k
 orderOf Up n k = k
 orderOf Down n k = n - 1 - k
+
+-- count places of a stretch of n, from `first` on
+pub record Places (first apart count n : ℕ) : Type 0 where
+  pub few : n ≤ 64
+  pub on : 0 < apart
+  pub inside : (k : ℕ) → k < count → first + k * apart < n
+
+-- no place is both to be written and to be read
+pub record Apart (to from apart count : ℕ) : Type 0 where
+  pub are : (j k : ℕ) → j < count → k < count → from + j * apart ≡ to + k * apart → ⊥
+
+-- the places at position p and those behind them; none where no word comes
+abbrev pub noLine : Line
+noLine = record { to = 0; from = 0; apart = 1; count = 0 }
+
+abbrev pub lineFrom : ℕ → Way → ℕ → Source → Line
+lineFrom s w p (At q) = record { to = p * alongOf s w; from = q * alongOf s w; apart = acrossOf s w; count = s }
+lineFrom s w p Nothing = noLine
+
+abbrev pub lineAt : ℕ → Way → ℕ → Line
+lineAt s w p = cond (ltb p s) (lineFrom s w p (behindOf s w p)) noLine
+
+pub record LineIn (x : Line) (n : ℕ) : Type 0 where
+  pub written : Places (x .to) (x .apart) (x .count) n
+  pub heard : Places (x .from) (x .apart) (x .count) n
+  pub apart : Apart (x .to) (x .from) (x .apart) (x .count)
+
+-- count places hold f 0, f 1, .. and the others what they held
+pub record Laid (first apart count : ℕ) (f : ℕ → ℕ) (l l′ : List ℕ) : Type 0 where
+  pub size : length l′ ≡ length l
+  pub done : (k : ℕ) → k < count → getD l′ (first + k * apart) 0 ≡ f k
+  pub kept : (i : ℕ) → ((k : ℕ) → k < count → i ≡ first + k * apart → ⊥) → getD l′ i 0 ≡ getD l i 0
+
+-- what a cell makes of its word and the one that it received, when it is its turn
+abbrev pub joinOf : Joining → ℕ → ℕ → ℕ
+joinOf Add own x = plus own x
+joinOf Copy own x = x
+joinOf Fill own x = x
+
+abbrev pub joinFrom : Joining → ℕ → ℕ → ℕ → List ℕ → ℕ → ℕ
+joinFrom j to from apart l k = joinOf j (getD l (to + k * apart) 0) (getD l (from + k * apart) 0)
 
 -- a move of all groups
 abbrev pub steppedAll : ℕ → Way → Rule → State ℕ → State ℕ
@@ -147,6 +225,12 @@ shiftOn s MeshRow edge m n σ c d a b = meshShift s Right edge m n σ c d a b
 shiftOn s MeshColumn edge m n σ c d a b = meshShift s Down edge m n σ c d a b
 shiftOn s GroupRow edge m n σ c d a b = swapped (meshShift s Right edge m n (swapped σ)) c d a b
 shiftOn s GroupColumn edge m n σ c d a b = swapped (meshShift s Down edge m n (swapped σ)) c d a b
+
+-- the spot of the next cell
+abbrev pub nextSpot : ℕ → Spot → Spot
+nextSpot s x =
+    cond (ltb (x .column + 1) s) (record { row = x .row; column = x .column + 1 })
+    (cond (ltb (x .row + 1) s) (record { row = x .row + 1; column = 0 }) (record { row = 0; column = 0 }))
 
 -- l, with the words of m in the cells that take them
 abbrev pub chosen : ℕ → Way → Edge → ℕ → ℕ → List ℕ → List ℕ → List ℕ

@@ -2,7 +2,6 @@
 use crate::lanes::Combining;
 use crate::lanes::combine;
 use crate::steps::Joining;
-use crate::steps::position;
 use crate::steps::run;
 use array::moves::Way;
 use array::moves::opposite;
@@ -11,9 +10,10 @@ use shifts::Axis;
 use shifts::Edge;
 ghost use mathlib.Core.Path.{_≡_};
 ghost use mathlib.Core.Bool.{cond};
-ghost use Prim.Native.Nat.{_≤_};
+ghost use Prim.Native.Nat.{_≤_, _<_};
 ghost use lib.ListN.{length};
-ghost use Rattle.words.specs.Inside.{Board, Moved, takes as takesOf, chosen, swapped, meshShift, shiftOn};
+ghost use Rattle.words.specs.Programs.{position as positionOf};
+ghost use Rattle.words.specs.Inside.{Board, Moved, nextSpot, takes as takesOf, chosen, swapped, meshShift, shiftOn};
 
 // Whether a cell at position p takes the word that came so many moves home, and not the one that came forth.
 fn takes(edge: Edge, forth: usize, home: usize, p: usize) -> bool
@@ -26,6 +26,43 @@ fn takes(edge: Edge, forth: usize, home: usize, p: usize) -> bool
         Edge::ZeroFill => true,
         Edge::Circular => p < forth,
     }
+}
+
+// A row and a column of a group.
+pub struct Spot {
+    pub row: usize,
+    pub column: usize,
+}
+
+fn position(way: Way, spot: Spot) -> usize
+    ensures { λ r. ⌜ r ≡ positionOf way (spot .row) (spot .column) ⌝ }
+{
+    match way {
+        Way::Right => spot.column,
+        Way::Left => spot.column,
+        Way::Up => spot.row,
+        Way::Down => spot.row,
+    }
+}
+
+// The spot of the next cell; behind the last of a group comes the first of the next group.
+fn next_spot(side: usize, spot: Spot) -> Spot
+    requires { ⌜ (spot .row < side) × (spot .column < side) ⌝ }
+    ensures { λ r. ⌜ r ≡ nextSpot side spot ⌝ }
+{
+    if spot.column + 1 < side {
+        return Spot {
+            row: spot.row,
+            column: spot.column + 1,
+        };
+    }
+    if spot.row + 1 < side {
+        return Spot {
+            row: spot.row + 1,
+            column: 0,
+        };
+    }
+    Spot { row: 0, column: 0 }
 }
 
 fn choose(
@@ -41,12 +78,13 @@ fn choose(
     requires { ⌜ length (now back) ≡ length (now words) ⌝ }
     ensures { λ _. ⌜ now (words .exit) ≡ chosen side way edge forth home (now (words .entry)) (now (back .entry)) ⌝ }
 {
-    let n = side * side;
+    let mut spot = Spot { row: 0, column: 0 };
     let mut i = 0;
     while i < words.len() {
-        let p = position(side, way, i % n);
+        let p = position(way, spot);
         let v = pick(takes(edge, forth, home, p), back[i], words[i]);
         words[i] = v;
+        spot = next_spot(side, spot);
         i += 1;
     }
 }

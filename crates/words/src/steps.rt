@@ -2,14 +2,12 @@
 use array::moves::Way;
 ghost use mathlib.Core.Path.{_≡_};
 ghost use mathlib.Core.Bool.{cond};
-ghost use mathlib.Core.Option.{none, some};
-ghost use Prim.Native.Nat.{_+_, _-_, _*_, _≤_, _<_};
-ghost use lib.ListN.{length, getD};
+ghost use Prim.Native.Nat.{_+_, _-_, _≤_, _<_};
+ghost use lib.ListN.{length};
 ghost use lib.Dec.{ltb};
-ghost use Rattle.array.specs.Cells.{groups, row, column};
 ghost use Rattle.words.specs.Machine.{all};
-ghost use Rattle.words.specs.Programs.{position as positionOf, stepsOn};
-ghost use Rattle.words.specs.Inside.{Board, Moved, ruleOf, sourceOf, nextOf, stepped, orderOf, steppedAll, running};
+ghost use Rattle.words.specs.Programs.{stepsOn};
+ghost use Rattle.words.specs.Inside.{Board, Group, Moved, Places, Apart, Laid, joinFrom, joinOf, behindOf, alongOf, acrossOf, lineAt, LineIn, orderOf, turned, filling, stepped, steppedAll, running};
 
 // How a cell takes a word: it adds it, or has it in place of its own, when it is the turn of its position; or it fills itself with it always.
 pub enum Joining {
@@ -24,11 +22,26 @@ pub struct Rule {
     pub front: usize,
 }
 
-// The place of a group from which a word comes.
+// The position of a line from which a word comes.
 pub enum Source {
     At(usize),
     Nothing,
 }
+
+// The places that take a word in a move, and those from which it comes: the first of each, how far apart they are, and how many.
+pub struct Line {
+    pub to: usize,
+    pub from: usize,
+    pub apart: usize,
+    pub count: usize,
+}
+
+const NO_LINE: Line = Line {
+    to: 0,
+    from: 0,
+    apart: 1,
+    count: 0,
+};
 
 // a − b, or 0 where b is more.
 fn less(a: usize, b: usize) -> usize
@@ -37,126 +50,192 @@ fn less(a: usize, b: usize) -> usize
     if b <= a { a - b } else { 0 }
 }
 
-// The place `by` before place i, which is at position p of its line.
-fn behind(p: usize, i: usize, by: usize) -> Source
-    ensures { λ r. ⌜ r ≡ cond (ltb 0 p) (Source.At (i - by)) Source.Nothing ⌝ }
+// The position before p.
+fn earlier(p: usize) -> Source
+    ensures { λ r. ⌜ r ≡ cond (ltb 0 p) (Source.At (p - 1)) Source.Nothing ⌝ }
 {
     if 0 < p {
-        return Source::At(less(i, by));
+        return Source::At(p - 1);
     }
     Source::Nothing
 }
 
-// The place `by` after it.
-fn beyond(side: usize, p: usize, i: usize, by: usize) -> Source
-    requires { ⌜ (p ≤ 64) × (i ≤ 64) × (by ≤ 8) ⌝ }
-    ensures { λ r. ⌜ r ≡ cond (ltb (p + 1) side) (Source.At (i + by)) Source.Nothing ⌝ }
+// The position after it.
+fn later(side: usize, p: usize) -> Source
+    requires { ⌜ p < side ⌝ }
+    ensures { λ r. ⌜ r ≡ cond (ltb (p + 1) side) (Source.At (p + 1)) Source.Nothing ⌝ }
 {
     if p + 1 < side {
-        return Source::At(i + by);
+        return Source::At(p + 1);
     }
     Source::Nothing
 }
 
-// The place whose word comes to place i.
-fn comes_from(side: usize, way: Way, i: usize) -> Source
-    requires { ⌜ (1 ≤ side) × (side ≤ 8) × (i < 64) ⌝ }
-    ensures { λ r. ⌜ r ≡ sourceOf side way i ⌝ }
+// The position whose word comes to position p.
+fn behind(side: usize, way: Way, p: usize) -> Source
+    requires { ⌜ p < side ⌝ }
+    ensures { λ r. ⌜ r ≡ behindOf side way p ⌝ }
 {
     match way {
-        Way::Right => behind(i % side, i, 1),
-        Way::Left => beyond(side, i % side, i, 1),
-        Way::Up => beyond(side, i / side, i, side),
-        Way::Down => behind(i / side, i, side),
+        Way::Right => earlier(p),
+        Way::Left => later(side, p),
+        Way::Up => later(side, p),
+        Way::Down => earlier(p),
     }
 }
 
-// The position of place i on its line.
-pub(crate) fn position(side: usize, way: Way, i: usize) -> usize
-    requires { ⌜ 1 ≤ side ⌝ }
-    ensures { λ r. ⌜ r ≡ positionOf way (row side i) (column side i) ⌝ }
+// How far apart the places of a line are in a stretch.
+fn along(side: usize, way: Way) -> usize
+    ensures { λ r. ⌜ r ≡ alongOf side way ⌝ }
 {
     match way {
-        Way::Right => i % side,
-        Way::Left => i % side,
-        Way::Up => i / side,
-        Way::Down => i / side,
+        Way::Right => 1,
+        Way::Left => 1,
+        Way::Up => side,
+        Way::Down => side,
     }
 }
 
-fn read(part: &[u32], i: usize) -> u32
-    ensures { λ r. ⌜ r ≡ getD (now (part .entry)) i 0 ⌝ }
+// How far apart the lines are.
+fn across(side: usize, way: Way) -> usize
+    ensures { λ r. ⌜ r ≡ acrossOf side way ⌝ }
 {
-    if i < part.len() { part[i] } else { 0 }
+    match way {
+        Way::Right => side,
+        Way::Left => side,
+        Way::Up => 1,
+        Way::Down => 1,
+    }
 }
 
-// The word of a cell at position p that received x.
-fn joined(rule: Rule, p: usize, own: u32, x: u32) -> u32
-    ensures { λ r. ⌜ r ≡ ruleOf (rule .joining) (rule .front) p own (some x) ⌝ }
+// The word of a cell whose turn it is and that received x.
+fn joined(joining: Joining, own: u32, x: u32) -> u32
+    ensures { λ r. ⌜ r ≡ joinOf joining own x ⌝ }
 {
-    let joining = rule.joining;
     match joining {
-        Joining::Add => if p == rule.front {
-            std::num::wrapping_add_u32(own, x)
-        } else {
-            own
-        },
-        Joining::Copy => if p == rule.front { x } else { own },
+        Joining::Add => std::num::wrapping_add_u32(own, x),
+        Joining::Copy => x,
         Joining::Fill => x,
     }
 }
 
-// The word of a cell that received nothing.
-fn unjoined(rule: Rule, p: usize, own: u32) -> u32
-    ensures { λ r. ⌜ r ≡ ruleOf (rule .joining) (rule .front) p own none ⌝ }
+// So many places, from one on and so far apart, join the words of as many from another one on.
+fn join_places(
+    part: &mut [u32],
+    joining: Joining,
+    to: usize,
+    from: usize,
+    apart: usize,
+    count: usize,
+)
+    requires { ⌜ Places to apart count (length (now part)) ⌝ }
+    requires { ⌜ Places from apart count (length (now part)) ⌝ }
+    requires { ⌜ Apart to from apart count ⌝ }
+    ensures { λ _. ⌜ Laid to apart count (joinFrom joining to from apart (now (part .entry))) (now (part .entry)) (now (part .exit)) ⌝ }
+{
+    let mut k = 0;
+    while k < count {
+        let i = to + k * apart;
+        let j = from + k * apart;
+        let v = joined(joining, part[i], part[j]);
+        part[i] = v;
+        k += 1;
+    }
+}
+
+fn join_line(part: &mut [u32], joining: Joining, line: Line)
+    requires { ⌜ LineIn line (length (now part)) ⌝ }
+    ensures { λ _. ⌜ Laid (line .to) (line .apart) (line .count) (joinFrom joining (line .to) (line .from) (line .apart) (now (part .entry))) (now (part .entry)) (now (part .exit)) ⌝ }
+{
+    join_places(part, joining, line.to, line.from, line.apart, line.count);
+}
+
+// So many places hold 0.
+fn clear_places(part: &mut [u32], to: usize, apart: usize, count: usize)
+    requires { ⌜ Places to apart count (length (now part)) ⌝ }
+    ensures { λ _. ⌜ Laid to apart count (λ k. 0) (now (part .entry)) (now (part .exit)) ⌝ }
+{
+    let mut k = 0;
+    while k < count {
+        let i = to + k * apart;
+        part[i] = 0;
+        k += 1;
+    }
+}
+
+// The places at position p and those behind them; none where no word comes.
+fn line_at(side: usize, way: Way, p: usize) -> Line
+    requires { ⌜ (1 ≤ side) × (side ≤ 8) ⌝ }
+    ensures { λ r. ⌜ r ≡ lineAt side way p ⌝ }
+{
+    if side <= p {
+        return NO_LINE;
+    }
+    let next = along(side, way);
+    let apart = across(side, way);
+    let from = behind(side, way, p);
+    match from {
+        Source::At(q) => Line {
+            to: p * next,
+            from: q * next,
+            apart: apart,
+            count: side,
+        },
+        Source::Nothing => NO_LINE,
+    }
+}
+
+// The places at position p take the word that comes to them, or 0.
+fn fill_line(part: &mut [u32], side: usize, way: Way, p: usize)
+    requires { ⌜ Group side (length (now part)) ⌝ }
+    requires { ⌜ p < side ⌝ }
+    ensures { λ _. ⌜ now (part .exit) ≡ turned side way Joining.Fill p (now (part .entry)) ⌝ }
+{
+    let next = along(side, way);
+    let apart = across(side, way);
+    let from = behind(side, way, p);
+    match from {
+        Source::At(q) => join_places(part, Joining::Fill, p * next, q * next, apart, side),
+        Source::Nothing => clear_places(part, p * next, apart, side),
+    }
+}
+
+// The position whose turn is the k-th: from the far end back.
+fn order(way: Way, side: usize, k: usize) -> usize
+    requires { ⌜ k < side ⌝ }
+    ensures { λ r. ⌜ r ≡ orderOf way side k ⌝ }
+{
+    match way {
+        Way::Right => side - 1 - k,
+        Way::Left => k,
+        Way::Up => k,
+        Way::Down => side - 1 - k,
+    }
+}
+
+// A move in which every position has its turn: what it takes is still as it was.
+fn fill(part: &mut [u32], side: usize, way: Way)
+    requires { ⌜ Group side (length (now part)) ⌝ }
+    ensures { λ _. ⌜ now (part .exit) ≡ stepped side way filling (now (part .entry)) ⌝ }
+{
+    let mut k = 0;
+    while k < side {
+        fill_line(part, side, way, order(way, side, k));
+        k += 1;
+    }
+}
+
+// One move inside a group, in its own stretch: with a front that position alone has its turn.
+fn step(part: &mut [u32], side: usize, way: Way, rule: Rule, line: Line)
+    requires { ⌜ Group side (length (now part)) ⌝ }
+    requires { ⌜ line ≡ lineAt side way (rule .front) ⌝ }
+    ensures { λ _. ⌜ now (part .exit) ≡ stepped side way rule (now (part .entry)) ⌝ }
 {
     let joining = rule.joining;
     match joining {
-        Joining::Add => own,
-        Joining::Copy => own,
-        Joining::Fill => 0,
-    }
-}
-
-// The word of place i after a move.
-fn next(part: &[u32], side: usize, way: Way, rule: Rule, i: usize) -> u32
-    requires { ⌜ (1 ≤ side) × (side ≤ 8) × (i < 64) ⌝ }
-    ensures { λ r. ⌜ r ≡ nextOf side way rule (now (part .entry)) i ⌝ }
-{
-    let own = read(part, i);
-    let p = position(side, way, i);
-    let from = comes_from(side, way, i);
-    match from {
-        Source::At(j) => joined(rule, p, own, read(part, j)),
-        Source::Nothing => unjoined(rule, p, own),
-    }
-}
-
-// The place whose turn is the k-th.
-fn order(way: Way, n: usize, k: usize) -> usize
-    requires { ⌜ k < n ⌝ }
-    ensures { λ r. ⌜ r ≡ orderOf way n k ⌝ }
-{
-    match way {
-        Way::Right => n - 1 - k,
-        Way::Left => k,
-        Way::Up => k,
-        Way::Down => n - 1 - k,
-    }
-}
-
-// One move inside a group, in its own stretch, from the far end back: what a place takes is still as it was.
-fn step(part: &mut [u32], side: usize, way: Way, rule: Rule)
-    requires { ⌜ (1 ≤ side) × (side ≤ 8) × (length (now part) ≡ groups side) ⌝ }
-    ensures { λ _. ⌜ now (part .exit) ≡ stepped side way rule (now (part .entry)) ⌝ }
-{
-    let n = side * side;
-    let mut k = 0;
-    while k < n {
-        let i = order(way, n, k);
-        let v = next(&part[..], side, way, rule, i);
-        part[i] = v;
-        k += 1;
+        Joining::Add => join_line(part, Joining::Add, line),
+        Joining::Copy => join_line(part, Joining::Copy, line),
+        Joining::Fill => fill(part, side, way),
     }
 }
 
@@ -165,12 +244,13 @@ fn step_all(words: &mut [u32], side: usize, way: Way, rule: Rule)
     requires { ⌜ Board side (length (now words)) ⌝ }
     ensures { λ _. ⌜ Moved side (steppedAll side way rule) (now (words .entry)) (now (words .exit)) ⌝ }
 {
+    let line = line_at(side, way, rule.front);
     let n = side * side;
     let mut g = 0;
     while g < n {
         let a = g * n;
         let e = a + n;
-        step(&mut words[a..e], side, way, rule);
+        step(&mut words[a..e], side, way, rule, line);
         g += 1;
     }
 }

@@ -8,6 +8,7 @@ use light::is_board;
 use light::swap_words;
 ghost use mathlib.Core.Path.{_≡_};
 ghost use mathlib.Core.Bool.{cond};
+ghost use Prim.Native.Nat.{_≤_};
 ghost use lib.ListN.{length};
 ghost use Rattle.light.specs.Lane.{isBoard};
 ghost use Rattle.words.specs.Machine.{made};
@@ -117,8 +118,28 @@ fn prefix_lanes(
     finish(r, &c[..], z, side);
 }
 
-// Each word becomes the sum of the words up to it.
-pub(crate) fn sum_up(words: &mut [u32], side: usize)
+// On a board of side 4 at most: to clear lanes that are much too long takes longer than the moves.
+fn sum_up_few(words: &mut [u32], side: usize)
+    requires { ⌜ Board side (length (now words)) ⌝ }
+    requires { ⌜ length (now words) ≤ 256 ⌝ }
+    ensures { λ _. ⌜ Moved side (prefixed side) (now (words .entry)) (now (words .exit)) ⌝ }
+{
+    let mut c = [0u32; 256];
+    let mut a = [0u32; 256];
+    let mut y = [0u32; 256];
+    let mut z = [0u32; 256];
+    let n = words.len();
+    prefix_lanes(
+        words,
+        &mut c[..n],
+        &mut a[..n],
+        &mut y[..n],
+        &mut z[..n],
+        side,
+    );
+}
+
+fn sum_up_many(words: &mut [u32], side: usize)
     requires { ⌜ Board side (length (now words)) ⌝ }
     ensures { λ _. ⌜ Moved side (prefixed side) (now (words .entry)) (now (words .exit)) ⌝ }
 {
@@ -135,6 +156,18 @@ pub(crate) fn sum_up(words: &mut [u32], side: usize)
         &mut z[..n],
         side,
     );
+}
+
+// Each word becomes the sum of the words up to it.
+pub(crate) fn sum_up(words: &mut [u32], side: usize)
+    requires { ⌜ Board side (length (now words)) ⌝ }
+    ensures { λ _. ⌜ Moved side (prefixed side) (now (words .entry)) (now (words .exit)) ⌝ }
+{
+    if words.len() <= 256 {
+        sum_up_few(words, side);
+    } else {
+        sum_up_many(words, side);
+    }
 }
 
 // The same for every side and every lane: what is no lane of a board stays.

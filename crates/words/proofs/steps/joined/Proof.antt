@@ -1,6 +1,4 @@
--- `words::steps::joined` meets its contract: by cases on the joining and the front.
-use Rattle.words.specs.Programs.{front}
-use borrow.Author.Tests.{eq-eqb, ne-eqb}
+-- `words::steps::joined` meets its contract: by cases on the joining.
 use borrow.Author.Needs.{needs}
 use Rattle.words.proofs.steps.joined.Statement.{statement}
 use Rattle.words.proofs.steps.joined.Tie as tie
@@ -21,23 +19,13 @@ enum-told-3 : tie.Need-enum-told-3
 enum-told-3 c = search needs
 
 returns : tie.Need-returns
-unfolding front
-returns c = rw (c .before .before .before .enum-told .given .1, eq-eqb _ _ (c .before .if1 .taken)) (c .wrapping-add-u32 .ensures)
+returns c = rw (c .before .enum-told .given .1) (c .wrapping-add-u32 .ensures)
 
 returns-2 : tie.Need-returns-2
-unfolding front
-returns-2 c = rw (c .before .before .enum-told .given .1, ne-eqb _ _ (c .if1 .left))
+returns-2 c = search needs
 
 returns-3 : tie.Need-returns-3
-unfolding front
-returns-3 c = rw (c .before .before .enum-told2 .given .1, eq-eqb _ _ (c .if2 .taken))
-
-returns-4 : tie.Need-returns-4
-unfolding front
-returns-4 c = rw (c .before .before .enum-told2 .given .1, ne-eqb _ _ (c .if2 .left))
-
-returns-5 : tie.Need-returns-5
-returns-5 c = search needs
+returns-3 c = search needs
 
 pub joined-spec : {M : Type 1} → statement M
 joined-spec =
@@ -49,6 +37,4 @@ joined-spec =
     enum-told-3
     returns
     returns-2
-    returns-3
-    returns-4
-    returns-5)
+    returns-3)

@@ -1,71 +1,66 @@
--- `words::steps::step` meets its contract: turn by turn, by `Swept`: what a place takes has its turn later.
+-- `words::steps::step` meets its contract: by cases on the joining.
+use mathlib.Core.Path.{refl}
+use Rattle.words.specs.declared.steps.Joining.the-variants.{Add, Copy}
+use Rattle.words.specs.Programs.{plus, copy}
+use Rattle.words.proofs.Spots.{line-in-group}
+use Rattle.words.proofs.Sweeping.{turned-line, front-stepped, filled-stepped}
 use borrow.Author.Needs.{needs}
-use Prim.Native.Nat.{_≤_, _-_}
-use native.Mathlib.Omega.{arith}
-use mathlib.Core.Path.{sym, _∙_}
-use Rattle.array.specs.Cells.{groups}
-use Rattle.laws.proofs.Numbers.{square-grows}
-use Rattle.words.proofs.Sweeping.{Swept, swept-start, swept-next, swept-end, order-in}
 use Rattle.words.proofs.steps.step.Statement.{statement}
 use Rattle.words.proofs.steps.step.Tie as tie
 use Rattle.words.proofs.steps.step.Reads as reads
 use Rattle.words.proofs.steps.step.Lts as lts
-use Rattle.words.proofs.steps.next.Reads as next-reads
-use Rattle.words.proofs.steps.order.Reads as order-reads
+use Rattle.words.proofs.steps.fill.Reads as fill-reads
+use Rattle.words.proofs.steps.join_line.Reads as join-line-reads
 
-abbrev Inv-loop : tie.InvT-loop
-Inv-loop part₀ side way rule n k₀ part k = (k ≤ groups side) × Swept side way rule part₀ k part
+enum-told : tie.Need-enum-told
+enum-told c = search needs
 
-abbrev μ-loop : tie.MeasureT-loop
-μ-loop part₀ side way rule n k₀ part k = groups side - k
+join-line-requires : tie.Need-join-line-requires
+join-line-requires c κs = rw (c .before .before .before .before .pre .1) (line-in-group (c .before .before .before .before .pre .0) (c .before .before .before .before .args .way) (c .before .before .before .before .args .rule .front))
 
-mul-n : tie.Need-mul-n Inv-loop μ-loop
-mul-n c = omega (arith, square-grows (c .before .pre .1))
+enum-told-2 : tie.Need-enum-told-2
+enum-told-2 c = search needs
 
-loop-holds : tie.Need-loop-holds Inv-loop μ-loop
-loop-holds c = (search needs, swept-start (search needs) (search needs))
+join-line-requires-2 : tie.Need-join-line-requires-2
+join-line-requires-2 c κs = rw (c .before .before .before .before .pre .1) (line-in-group (c .before .before .before .before .pre .0) (c .before .before .before .before .args .way) (c .before .before .before .before .args .rule .front))
 
-order-requires : tie.Need-order-requires Inv-loop μ-loop
-order-requires c κs = search needs
+enum-told-3 : tie.Need-enum-told-3
+enum-told-3 c = search needs
 
-next-requires : tie.Need-next-requires Inv-loop μ-loop
-next-requires c κs = (search needs, search needs, omega (arith, square-grows (c .before .before .before .before .before .pre .1), c .before .order .ensures, order-in (c .before .before .before .before .before .args .way) (groups (c .before .before .before .before .before .args .side)) (c .before .before .before .loop .k) (c .before .before .loop-test .taken)))
+fill-requires : tie.Need-fill-requires
+fill-requires c κs = search needs
 
-mul-part : tie.Need-mul-part Inv-loop μ-loop
-mul-part c = omega (arith, square-grows (c .before .before .before .before .before .before .pre .1), c .before .before .order .ensures, order-in (c .before .before .before .before .before .before .args .way) (groups (c .before .before .before .before .before .before .args .side)) (c .before .before .before .before .loop .k) (c .before .before .before .loop-test .taken))
+same-length : tie.Need-same-length
+same-length c = search needs
 
-slice-write-part : tie.Need-slice-write-part Inv-loop μ-loop
-slice-write-part c = omega (arith, c .before .before .order .ensures, order-in (c .before .before .before .before .before .before .args .way) (groups (c .before .before .before .before .before .before .args .side)) (c .before .before .before .before .loop .k) (c .before .before .before .loop-test .taken), c .before .before .before .before .loop .inv .1 .size)
+returns : tie.Need-returns
+returns c = front-stepped (c .before .before .before .before .before .before .before .args .side) (c .before .before .before .before .before .before .before .args .way) (c .before .before .before .before .before .before .before .args .rule) (c .before .before .before .before .before .before .before .args .part .now) _ plus Add refl (c .before .before .before .before .enum-told .given .1) (turned-line (c .before .before .before .before .before .before .before .args .side) (c .before .before .before .before .before .before .before .args .way) (c .before .before .before .before .before .before .before .args .rule .front) (c .before .before .before .before .before .before .before .args .part .now) _ plus Add (c .before .before .before .before .before .before .before .args .line) refl (c .before .before .before .before .before .before .before .pre .0) (c .before .before .before .before .before .before .before .pre .1) (c .before .before .join-line .ensures))
 
-add-k : tie.Need-add-k Inv-loop μ-loop
-add-k c = omega (arith, square-grows (c .before .before .before .before .before .before .pre .1))
+same-length-2 : tie.Need-same-length-2
+same-length-2 c = search needs
 
-loop-less : tie.Need-loop-less Inv-loop μ-loop
-loop-less c = search needs
+returns-2 : tie.Need-returns-2
+returns-2 c = front-stepped (c .before .before .before .before .before .before .before .args .side) (c .before .before .before .before .before .before .before .args .way) (c .before .before .before .before .before .before .before .args .rule) (c .before .before .before .before .before .before .before .args .part .now) _ copy Copy refl (c .before .before .before .before .enum-told2 .given .1) (turned-line (c .before .before .before .before .before .before .before .args .side) (c .before .before .before .before .before .before .before .args .way) (c .before .before .before .before .before .before .before .args .rule .front) (c .before .before .before .before .before .before .before .args .part .now) _ copy Copy (c .before .before .before .before .before .before .before .args .line) refl (c .before .before .before .before .before .before .before .pre .0) (c .before .before .before .before .before .before .before .pre .1) (c .before .before .join-line2 .ensures))
 
-loop-again : tie.Need-loop-again Inv-loop μ-loop
-loop-again c = (search needs, swept-next _ _ (c .before .before .before .loop-test .taken) (c .before .before .order .ensures) (c .next .ensures) (c .before .before .before .before .loop .inv .1))
+same-length-3 : tie.Need-same-length-3
+same-length-3 c = search needs
 
-same-length : tie.Need-same-length Inv-loop μ-loop
-same-length c = c .before .loop .inv .1 .size ∙ sym (search needs)
-
-returns : tie.Need-returns Inv-loop μ-loop
-returns c = swept-end (search needs) (c .before .loop .inv .1)
+returns-3 : tie.Need-returns-3
+returns-3 c = filled-stepped (c .before .before .before .before .before .before .before .args .side) (c .before .before .before .before .before .before .before .args .way) (c .before .before .before .before .before .before .before .args .rule) (c .before .before .before .before .before .before .before .args .part .now) _ (c .before .before .before .before .enum-told3 .given .1) (c .before .before .fill .ensures)
 
 pub step-spec : {M : Type 1} → statement M
 step-spec =
     tie.close
     (tie.spec
-    Inv-loop
-    μ-loop
-    mul-n
-    loop-holds
-    order-requires
-    next-requires
-    mul-part
-    slice-write-part
-    add-k
-    loop-less
-    loop-again
+    enum-told
+    join-line-requires
+    enum-told-2
+    join-line-requires-2
+    enum-told-3
+    fill-requires
     same-length
-    returns)
+    returns
+    same-length-2
+    returns-2
+    same-length-3
+    returns-3)

@@ -12,55 +12,59 @@ use Rattle.words.proofs.steps.step_all.Statement.{statement}
 use Rattle.words.proofs.steps.step_all.Tie as tie
 use Rattle.words.proofs.steps.step_all.Reads as reads
 use Rattle.words.proofs.steps.step_all.Lts as lts
+use Rattle.words.proofs.steps.line_at.Reads as line-at-reads
 use Rattle.words.proofs.steps.step.Reads as step-reads
 
 abbrev Inv-loop : tie.InvT-loop
-Inv-loop words₀ side way rule n g₀ words g = (g ≤ groups side) × Changed (stepped side way rule) (groups side) words₀ g words
+Inv-loop words₀ side way rule line n g₀ words g = (g ≤ groups side) × Changed (stepped side way rule) (groups side) words₀ g words
 
 abbrev μ-loop : tie.MeasureT-loop
-μ-loop words₀ side way rule n g₀ words g = groups side - g
+μ-loop words₀ side way rule line n g₀ words g = groups side - g
+
+line-at-requires : tie.Need-line-at-requires Inv-loop μ-loop
+line-at-requires c κs = (c .before .pre .least, c .before .pre .most)
 
 mul-n : tie.Need-mul-n Inv-loop μ-loop
-mul-n c = omega (arith, square-grows (c .before .pre .most))
+mul-n c = omega (arith, square-grows (c .before .before .pre .most))
 
 loop-holds : tie.Need-loop-holds Inv-loop μ-loop
 loop-holds c = (search needs, changed-start _ _ _)
 
 mul-a : tie.Need-mul-a Inv-loop μ-loop
-mul-a c = omega (arith, block-in _ (c .before .before .before .pre .whole) (c .loop-test .taken) (c .before .loop .inv .1))
+mul-a c = omega (arith, block-in _ (c .before .before .before .before .pre .whole) (c .loop-test .taken) (c .before .loop .inv .1))
 
 add-e : tie.Need-add-e Inv-loop μ-loop
-add-e c = omega (arith, block-in _ (c .before .before .before .pre .whole) (c .loop-test .taken) (c .before .loop .inv .1))
+add-e c = omega (arith, block-in _ (c .before .before .before .before .pre .whole) (c .loop-test .taken) (c .before .loop .inv .1))
 
 mul-step : tie.Need-mul-step Inv-loop μ-loop
-mul-step c = omega (arith, block-in _ (c .before .before .before .pre .whole) (c .loop-test .taken) (c .before .loop .inv .1))
+mul-step c = omega (arith, block-in _ (c .before .before .before .before .pre .whole) (c .loop-test .taken) (c .before .loop .inv .1))
 
 sub-step : tie.Need-sub-step Inv-loop μ-loop
-sub-step c = omega (arith, block-in _ (c .before .before .before .pre .whole) (c .loop-test .taken) (c .before .loop .inv .1))
+sub-step c = omega (arith, block-in _ (c .before .before .before .before .pre .whole) (c .loop-test .taken) (c .before .loop .inv .1))
 
 part-step-start : tie.Need-part-step-start Inv-loop μ-loop
-part-step-start c = omega (arith, block-in _ (c .before .before .before .pre .whole) (c .loop-test .taken) (c .before .loop .inv .1))
+part-step-start c = omega (arith, block-in _ (c .before .before .before .before .pre .whole) (c .loop-test .taken) (c .before .loop .inv .1))
 
 part-step-end : tie.Need-part-step-end Inv-loop μ-loop
-part-step-end c = omega (arith, block-in _ (c .before .before .before .pre .whole) (c .loop-test .taken) (c .before .loop .inv .1))
+part-step-end c = omega (arith, block-in _ (c .before .before .before .before .pre .whole) (c .loop-test .taken) (c .before .loop .inv .1))
 
 step-requires : tie.Need-step-requires Inv-loop μ-loop
-step-requires c κs = (c .before .before .before .before .pre .least, c .before .before .before .before .pre .most, block-size _ (c .before .before .before .before .pre .whole) (c .before .loop-test .taken) (c .before .before .loop .inv .1))
+step-requires c κs = (record { least = c .before .before .before .before .before .pre .least; most = c .before .before .before .before .before .pre .most; whole = block-size _ (c .before .before .before .before .before .pre .whole) (c .before .loop-test .taken) (c .before .before .loop .inv .1) }, c .before .before .before .line-at .ensures)
 
 add-g : tie.Need-add-g Inv-loop μ-loop
-add-g c = omega (arith, square-grows (c .before .before .before .before .before .before .before .pre .most))
+add-g c = omega (arith, square-grows (c .before .before .before .before .before .before .before .before .pre .most))
 
 loop-less : tie.Need-loop-less Inv-loop μ-loop
 loop-less c = omega arith
 
 loop-again : tie.Need-loop-again Inv-loop μ-loop
-loop-again c = (omega arith, changed-next _ (c .before .before .before .before .before .before .before .pre .whole) (c .before .before .before .before .loop-test .taken) (c .before .before .before .before .before .loop .inv .1) _ (c .before .before .step .kept .0 ∙ block-size _ (c .before .before .before .before .before .before .before .pre .whole) (c .before .before .before .before .loop-test .taken) (c .before .before .before .before .before .loop .inv .1)) (c .before .before .step .ensures))
+loop-again c = (omega arith, changed-next _ (c .before .before .before .before .before .before .before .before .pre .whole) (c .before .before .before .before .loop-test .taken) (c .before .before .before .before .before .loop .inv .1) _ (c .before .before .step .kept .0 ∙ block-size _ (c .before .before .before .before .before .before .before .before .pre .whole) (c .before .before .before .before .loop-test .taken) (c .before .before .before .before .before .loop .inv .1)) (c .before .before .step .ensures))
 
 same-length : tie.Need-same-length Inv-loop μ-loop
 same-length c = c .before .loop .inv .1 .size
 
 returns : tie.Need-returns Inv-loop μ-loop
-returns c = step-moved (c .before .before .before .args .side) (c .before .before .before .args .way) (c .before .before .before .args .rule) _ _ _ (search needs) (c .before .loop .inv .1)
+returns c = step-moved (c .before .before .before .before .args .side) (c .before .before .before .before .args .way) (c .before .before .before .before .args .rule) _ _ _ (search needs) (c .before .loop .inv .1)
 
 pub step-all-spec : {M : Type 1} → statement M
 step-all-spec =
@@ -68,6 +72,7 @@ step-all-spec =
     (tie.spec
     Inv-loop
     μ-loop
+    line-at-requires
     mul-n
     loop-holds
     mul-a

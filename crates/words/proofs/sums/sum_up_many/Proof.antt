@@ -1,12 +1,12 @@
--- `words::sums::sum_up` meets its contract: the scratch lanes are as long as the words.
+-- `words::sums::sum_up_many` meets its contract: the scratch lanes are as long as the words.
 use mathlib.Core.Path.{sym}
 use lib.Seq.{length-take-le}
 use Rattle.words.proofs.Composing.{sizes}
 use borrow.Author.Needs.{needs}
-use Rattle.words.proofs.sums.sum_up.Statement.{statement}
-use Rattle.words.proofs.sums.sum_up.Tie as tie
-use Rattle.words.proofs.sums.sum_up.Reads as reads
-use Rattle.words.proofs.sums.sum_up.Lts as lts
+use Rattle.words.proofs.sums.sum_up_many.Statement.{statement}
+use Rattle.words.proofs.sums.sum_up_many.Tie as tie
+use Rattle.words.proofs.sums.sum_up_many.Reads as reads
+use Rattle.words.proofs.sums.sum_up_many.Lts as lts
 use Rattle.words.proofs.sums.prefix_lanes.Reads as prefix-lanes-reads
 
 array-borrow-prefix-c : tie.Need-array-borrow-prefix-c
@@ -42,8 +42,8 @@ same-length c = search needs
 returns : tie.Need-returns
 returns c = search needs
 
-pub sum-up-spec : {M : Type 1} → statement M
-sum-up-spec =
+pub sum-up-many-spec : {M : Type 1} → statement M
+sum-up-many-spec =
     tie.close
     (tie.spec
     array-borrow-prefix-c
