@@ -6,7 +6,6 @@ use lib.ListN.{take, getD}
 use lib.Seq.{take-suc}
 use lib.Arith.{digits-div, digits-lt}
 use native.Mathlib.Nat.{div-add-mod', mod-lt, mod-eq-of-lt, div-lt-iff-lt-mul, mul-pos, zero-add, add-suc, suc-add}
-use native.Mathlib.Omega.{arith}
 use Rattle.array.specs.declared.moves.Way.{Way}
 use Rattle.array.specs.declared.moves.Way.the-variants.{Right, Left, Up, Down}
 use Rattle.array.specs.declared.moves.Move.{Move}

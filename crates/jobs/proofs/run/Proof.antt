@@ -1,6 +1,5 @@
 -- `jobs::run` meets its contract: what is read is refused, or solved.
 use mathlib.Core.Path.{sym}
-use Rattle.texts.proofs.Reading.{part-length}
 use Rattle.jobs.proofs.Answered.{ready-square, ready-cells, words-room, marks-room, ready-lanes, ready-filled, refused-filled}
 use borrow.Author.Needs.{needs}
 use Rattle.jobs.proofs.run.Statement.{statement}
