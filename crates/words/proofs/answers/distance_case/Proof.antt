@@ -4,10 +4,6 @@ use mir.ValLaws.{toZ-ofZ}
 use borrow.Author.Needs.{needs}
 use Rattle.words.proofs.answers.distance_case.Statement.{statement}
 use Rattle.words.proofs.answers.distance_case.Tie as tie
-use Rattle.words.proofs.answers.distance_case.Reads as reads
-use Rattle.words.proofs.answers.distance_case.Lts as lts
-use Rattle.array.proofs.shifts.distance_of.Reads as distance-of-reads
-use Rattle.array.proofs.shifts.is_within.Reads as is-within-reads
 
 distance-of-requires : tie.Need-distance-of-requires
 distance-of-requires c κs = search needs
