@@ -3,9 +3,9 @@
 use array::moves::Logged;
 use array::moves::Move;
 use array::moves::Way;
-use array::moves::electronic_in;
 use array::moves::log_line;
-use array::moves::swaps_in;
+use logs::electronic_in;
+use logs::swaps_in;
 use texts::write::put;
 use texts::write::put_field;
 ghost use mathlib.Core.Path.{_≡_};

@@ -1,6 +1,6 @@
 // What bench software written in C calls; include/otis.h declares it. A slice passes as a pointer and then a length. Nothing holds a
 // C declaration to these signatures, so the boundary trusts the header, which tests alone check.
-use array::answers::Answer;
+use answers::Answer;
 use ranking::rank;
 use records::entries::concentrate;
 use records::entries::distribute;

@@ -13,7 +13,7 @@ use Rattle.array.specs.declared.moves.Move.{Move}
 use Rattle.array.specs.declared.moves.Move.the-variants.{Swap, Electronic}
 use Rattle.array.specs.Cells.{groups, cells, cell, place, partner}
 use Rattle.array.specs.Moves.{opposite}
-use Rattle.array.specs.Lists.{concentrateRuns, distributeRuns}
+use Rattle.lists.specs.Lists.{concentrateRuns, distributeRuns}
 use Rattle.array.proofs.Board.{partner-twice, place-of}
 use Rattle.travel.specs.declared.turns.Turn.{Turn}
 use Rattle.travel.specs.Travel.{distance, toward, heading, stands}

@@ -10,15 +10,17 @@ use lib.Seq.{sets, sets-eq, take-at, length-sets}
 use lib.Dec.{eqb}
 use Rattle.laws.specs.Searching.{firstFrom, first}
 use Rattle.laws.proofs.Tables.{entry-at, length-entries}
-use Rattle.array.specs.declared.answers.Answer.{Answer}
-use Rattle.array.specs.declared.moves.Run.{Run}
+use Rattle.answers.specs.declared.Answer.{Answer}
+use Rattle.logs.specs.declared.Run.{Run}
 use Rattle.array.specs.Cells.{isSide, cells}
-use Rattle.array.specs.Moves.{moves, codeOf, electronic, swaps, codes as codesOf}
-use Rattle.array.specs.Lists.{concentrateRuns, prefixSumRuns}
-use Rattle.array.specs.Answers.{verdict, sideCase, laneCase, logCase, accepted, acceptedBy}
+use Rattle.array.specs.Moves.{codeOf}
+use Rattle.logs.specs.Runs.{moves, electronic, swaps, codes as codesOf}
+use Rattle.lists.specs.Lists.{concentrateRuns, prefixSumRuns}
+use Rattle.answers.specs.Answers.{verdict, sideCase, laneCase, logCase, accepted, acceptedBy}
 use Rattle.array.proofs.Board.{side-known}
-use Rattle.array.proofs.Counts.{length-moves, prefix-sum-electronic, prefix-sum-swaps, concentrate-length}
-use Rattle.array.proofs.Verdicts.{accepted-is}
+use Rattle.lists.proofs.Counts.{prefix-sum-electronic, prefix-sum-swaps, concentrate-length}
+use Rattle.logs.proofs.Lengths.{length-moves}
+use Rattle.answers.proofs.Verdicts.{accepted-is}
 use Rattle.marks.specs.Marks.{firstBad, marksCase, rankIn}
 use Rattle.ranking.specs.Ranks.{aimIn, ranks}
 use Rattle.ranking.specs.Entries.{rankCases, Ranked}

@@ -9,7 +9,7 @@ use Rattle.laws.specs.Sums.{sum}
 use Rattle.laws.specs.Tables.{entries}
 use Rattle.laws.proofs.Sums.{sum-cong}
 use Rattle.laws.proofs.Tables.{length-entries, entry-at, entries-all}
-use Rattle.array.proofs.Counts.{concentrate-length}
+use Rattle.lists.proofs.Counts.{concentrate-length}
 use Rattle.travel.specs.Travel.{stands}
 use Rattle.jobtext.specs.Verdicts.{Marked}
 use Rattle.jobs.specs.Outputs.{homeOf, movedIn, movedCounts}

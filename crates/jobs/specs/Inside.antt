@@ -6,8 +6,8 @@ use mathlib.Core.List.{List, []}
 use lib.ListN.{length, getD, take}
 use Rattle.laws.specs.Tables.{entries}
 use Rattle.array.specs.Cells.{isSide, cells}
-use Rattle.array.specs.Moves.{codes as codesOf}
-use Rattle.array.specs.Lists.{concentrateRuns}
+use Rattle.logs.specs.Runs.{codes as codesOf}
+use Rattle.lists.specs.Lists.{concentrateRuns}
 use Rattle.mesh.specs.Cells.{Sized}
 use Rattle.records.specs.Records.{markedCell, countIn, movedCounts}
 use Rattle.answertext.specs.Answers.{answerText}

@@ -6,8 +6,8 @@ use lib.ListN.{length, getD}
 use lib.Dec.{eqb}
 use Rattle.laws.specs.Sums.{sum}
 use Rattle.laws.specs.Tables.{entries}
-use Rattle.array.specs.Moves.{codes}
-use Rattle.array.specs.Lists.{concentrateRuns}
+use Rattle.logs.specs.Runs.{codes}
+use Rattle.lists.specs.Lists.{concentrateRuns}
 use Rattle.travel.specs.Travel.{concentrateMoves, stands}
 use Rattle.jobtext.specs.Verdicts.{Marked, Verdict, accepted, refused}
 use Rattle.answertext.specs.Answers.{answerText, refusedText}

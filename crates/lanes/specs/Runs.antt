@@ -7,7 +7,7 @@ use lib.ListN.{length, getD}
 use lib.Dec.{eqb, leb}
 use Rattle.laws.specs.Tables.{entries}
 use Rattle.array.specs.declared.moves.Way.{Way}
-use Rattle.array.specs.Moves.{along}
+use Rattle.logs.specs.Runs.{along}
 use Rattle.light.specs.Lane.{isBoard}
 use Rattle.lanes.specs.declared.Combining.{Combining}
 use Rattle.lanes.specs.declared.Combining.the-variants.{Take, Plus, Minus}

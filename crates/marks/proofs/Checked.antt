@@ -9,7 +9,7 @@ use lib.Dec.{ltb}
 use lib.ListN.{length, getD, drop, drop-of-length-le}
 use lib.Seq.{drop-cons}
 use borrow.Author.Tests.{lt-ltb, le-ltb, ltb-true, ltb-false}
-use Rattle.array.specs.declared.answers.Case.{Case}
+use Rattle.answers.specs.declared.Case.{Case}
 use Rattle.marks.specs.Marks.{isMark, firstBad, marksCase}
 
 -- the cells before i are good

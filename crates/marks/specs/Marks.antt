@@ -5,7 +5,7 @@ use mathlib.Core.List.{List, [], _∷_}
 use lib.Dec.{ltb}
 use lib.ListN.{length}
 use Rattle.laws.specs.Sums.{sumOf}
-use Rattle.array.specs.declared.answers.Case.{Case}
+use Rattle.answers.specs.declared.Case.{Case}
 
 abbrev pub isMark : ℕ → Bool
 isMark m = ltb m 2

@@ -1,5 +1,5 @@
 // The check of the marks, which every entry that reads marks makes.
-use array::answers::Case;
+use answers::Case;
 ghost use mathlib.Core.Path.{_≡_};
 ghost use Rattle.marks.specs.Marks.{marksCase};
 

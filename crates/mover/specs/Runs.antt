@@ -10,9 +10,9 @@ use Rattle.laws.specs.Tables.{entries}
 use Rattle.array.specs.declared.moves.Way.{Way}
 use Rattle.array.specs.declared.moves.Move.{Move}
 use Rattle.array.specs.declared.moves.Move.the-variants.{Swap, Electronic}
-use Rattle.array.specs.declared.moves.Run.{Run}
+use Rattle.logs.specs.declared.Run.{Run}
 use Rattle.array.specs.Cells.{cells, partner}
-use Rattle.array.specs.Lists.{concentrateRuns, distributeRuns}
+use Rattle.lists.specs.Lists.{concentrateRuns, distributeRuns}
 use Rattle.travel.specs.declared.turns.Turn.{Turn}
 use Rattle.travel.specs.Turns.{turnAt}
 use Rattle.mesh.specs.declared.cells.Cell.{Cell}

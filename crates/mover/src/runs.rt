@@ -1,10 +1,10 @@
 // The first moves of concentrate's list, or of distribute's, made one after the other on six lanes.
 use crate::swaps::swap_all;
-use array::lists::concentrate_runs;
-use array::lists::distribute_runs;
 use array::moves::Move;
-use array::moves::Run;
 use array::moves::Way;
+use lists::concentrate_runs;
+use lists::distribute_runs;
+use logs::Run;
 use mesh::cells::are_lanes;
 use mesh::moving::Rule;
 use mesh::moving::move_all;

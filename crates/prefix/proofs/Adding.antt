@@ -8,7 +8,7 @@ use native.Mathlib.Nat.{add-mod, mod-eq-of-lt}
 use lib.ListN.{getD}
 use Rattle.laws.specs.Sums.{sum}
 use Rattle.array.specs.declared.moves.Way.the-variants.{Right, Left, Up, Down}
-use Rattle.array.specs.Lists.{prefixSumRuns}
+use Rattle.lists.specs.Lists.{prefixSumRuns}
 use Rattle.lanes.specs.Machine.{State, all, runsOf, at, load, unload}
 use Rattle.lanes.specs.Stages.{from, light, copy, plus, minus}
 use Rattle.prefix.specs.Programs.{Sums, loadSums, addRow, addColumn, takeGroup, addGroups, addGroupRows, rowsAbove, takeAbove, groupsBefore, takeBefore, rowBefore, takeRow, prefixSum, prefixed}

@@ -8,15 +8,15 @@ use lib.Dec.{eqb}
 use lib.ListN.{length}
 use lib.Seq.{sets}
 use borrow.Author.Tests.{eq-eqb, ne-eqb, eqb-true, not-false}
-use Rattle.array.specs.declared.answers.Answer.{Answer}
-use Rattle.array.specs.declared.moves.Run.{Run}
+use Rattle.answers.specs.declared.Answer.{Answer}
+use Rattle.logs.specs.declared.Run.{Run}
 use Rattle.array.specs.Cells.{isSide, cells}
-use Rattle.array.specs.Moves.{electronic, swaps, codes as codesOf}
-use Rattle.array.specs.Lists.{prefixSumRuns}
-use Rattle.array.specs.Answers.{accepted, verdict, laneCase, logCase, acceptedBy}
+use Rattle.logs.specs.Runs.{electronic, swaps, codes as codesOf}
+use Rattle.lists.specs.Lists.{prefixSumRuns}
+use Rattle.answers.specs.Answers.{accepted, verdict, laneCase, logCase, acceptedBy}
 use Rattle.array.proofs.Board.{side-known}
-use Rattle.array.proofs.Counts.{prefix-sum-electronic}
-use Rattle.array.proofs.Verdicts.{NoneApplies, none-applies, board-verdict, accepted-counts}
+use Rattle.lists.proofs.Counts.{prefix-sum-electronic}
+use Rattle.answers.proofs.Verdicts.{NoneApplies, none-applies, board-verdict, accepted-counts}
 use Rattle.marks.specs.Marks.{marksCase}
 use Rattle.marks.proofs.Checked.{good-marks}
 use Rattle.ranking.specs.Ranks.{ranks}

@@ -4,11 +4,11 @@ use mathlib.Core.Path.{_≡_}
 use mathlib.Core.List.{List, [], _∷_}
 use lib.ListN.{length}
 use lib.Seq.{sets}
-use Rattle.array.specs.declared.answers.Answer.{Answer}
-use Rattle.array.specs.declared.answers.Case.{Case}
-use Rattle.array.specs.Moves.{electronic, swaps, codes as codesOf}
-use Rattle.array.specs.Lists.{prefixSumRuns}
-use Rattle.array.specs.Answers.{accepted, verdict, whereAccepted, sideCase, laneCase, logCase}
+use Rattle.answers.specs.declared.Answer.{Answer}
+use Rattle.answers.specs.declared.Case.{Case}
+use Rattle.logs.specs.Runs.{electronic, swaps, codes as codesOf}
+use Rattle.lists.specs.Lists.{prefixSumRuns}
+use Rattle.answers.specs.Answers.{accepted, verdict, whereAccepted, sideCase, laneCase, logCase}
 use Rattle.marks.specs.Marks.{marksCase}
 use Rattle.ranking.specs.Ranks.{ranks}
 

@@ -1,12 +1,12 @@
 // Rank: a marked cell's aim becomes the number of marked cells of smaller index. The marks are summed by the prefix sum's moves.
-use array::answers::Answer;
-use array::answers::lane_case;
-use array::answers::refusing;
-use array::answers::side_case;
-use array::lists::prefix_sum_runs;
-use array::logs::accepted_by;
-use array::logs::log_case;
-use array::logs::write_codes;
+use answers::Answer;
+use answers::accepted_by;
+use answers::lane_case;
+use answers::log_case;
+use answers::refusing;
+use answers::side_case;
+use lists::prefix_sum_runs;
+use logs::write_codes;
 use marks::marks_case;
 use prefix::prefix_words;
 ghost use mathlib.Core.Path.{_≡_};

@@ -13,14 +13,14 @@ use native.Mathlib.Omega.{arith}
 use lib.ListN.{length, getD}
 use Rattle.laws.proofs.Deciding.{apart}
 use Rattle.array.specs.declared.moves.Way.{Way}
-use Rattle.array.specs.declared.answers.Answer.{Answer}
-use Rattle.array.specs.Answers.{acceptedBy}
+use Rattle.answers.specs.declared.Answer.{Answer}
+use Rattle.answers.specs.Answers.{acceptedBy}
 use Rattle.array.proofs.Board.{side-known}
 use Rattle.mover.specs.Runs.{runsOf}
 use Rattle.array.specs.Cells.{cells, group}
-use Rattle.array.specs.Moves.{moves, electronic, swaps}
-use Rattle.array.specs.Lists.{concentrateRuns}
-use Rattle.array.proofs.Counts.{concentrate-electronic, concentrate-swaps, concentrate-length}
+use Rattle.logs.specs.Runs.{moves, electronic, swaps}
+use Rattle.lists.specs.Lists.{concentrateRuns}
+use Rattle.lists.proofs.Counts.{concentrate-electronic, concentrate-swaps, concentrate-length}
 use Rattle.travel.specs.Travel.{toward, heading}
 use Rattle.travel.proofs.Collide.{at-the-end}
 use Rattle.travel.proofs.Range.{same-group, heading<}

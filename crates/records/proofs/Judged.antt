@@ -9,8 +9,8 @@ use borrow.Author.Tests.{lt-ltb, le-ltb}
 use lib.ListN.{length, getD, take, drop, set, length-set, drop-of-length-le}
 use lib.Seq.{drop-cons, take-suc-set, take-all}
 use Rattle.laws.proofs.Searching.{Searching, searching-start, searching-next, searching-found, searching-none}
-use Rattle.array.specs.declared.answers.Case.{Case}
-use Rattle.array.specs.declared.moves.Run.{Run}
+use Rattle.answers.specs.declared.Case.{Case}
+use Rattle.logs.specs.declared.Run.{Run}
 use Rattle.marks.specs.Marks.{rankIn}
 use Rattle.records.specs.Cases.{badIn, badAim, firstAim, aimsCase}
 use Rattle.records.specs.Cuts.{firstRuns}

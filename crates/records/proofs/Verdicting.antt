@@ -8,13 +8,13 @@ use borrow.Author.Tests.{not-false, eqb-true, ltb-false}
 use lib.Dec.{eqb, ltb}
 use lib.ListN.{length, getD}
 use Rattle.laws.proofs.Searching.{none-found}
-use Rattle.array.specs.declared.answers.Answer.{Answer}
-use Rattle.array.specs.declared.answers.Case.{Case}
+use Rattle.answers.specs.declared.Answer.{Answer}
+use Rattle.answers.specs.declared.Case.{Case}
 use Rattle.array.specs.Cells.{isSide, cells}
-use Rattle.array.specs.declared.moves.Run.{Run}
-use Rattle.array.specs.Answers.{accepted, refusing, verdict, logCase}
+use Rattle.logs.specs.declared.Run.{Run}
+use Rattle.answers.specs.Answers.{accepted, refusing, verdict, logCase}
 use Rattle.array.proofs.Board.{side-known}
-use Rattle.array.proofs.Verdicts.{NoneApplies, AllRefuse, none-applies, accepted-is}
+use Rattle.answers.proofs.Verdicts.{NoneApplies, AllRefuse, none-applies, accepted-is}
 use Rattle.mesh.specs.Cells.{Sized}
 use Rattle.mover.specs.Runs.{runsOf}
 use Rattle.marks.specs.Marks.{marksCase}

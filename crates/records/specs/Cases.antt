@@ -5,9 +5,9 @@ use mathlib.Core.List.{List, [], _∷_}
 use lib.Dec.{ltb, leb, eqb}
 use lib.ListN.{length, getD}
 use Rattle.laws.specs.Searching.{first}
-use Rattle.array.specs.declared.answers.Case.{Case}
+use Rattle.answers.specs.declared.Case.{Case}
 use Rattle.array.specs.Cells.{isSide, isCell}
-use Rattle.array.specs.Answers.{sideCase, laneCase}
+use Rattle.answers.specs.Answers.{sideCase, laneCase}
 use Rattle.marks.specs.Marks.{rankIn}
 
 abbrev pub marked : List ℕ → ℕ → Bool

@@ -5,10 +5,10 @@ use mathlib.Core.Bool.{Bool, false}
 use mathlib.Core.List.{List, [], _∷_, _++_}
 use lib.ListN.{length, getD}
 use lib.Seq.{sets}
-use Rattle.array.specs.declared.answers.Answer.{Answer}
-use Rattle.array.specs.declared.answers.Case.{Case}
-use Rattle.array.specs.Moves.{codes as codesOf}
-use Rattle.array.specs.Answers.{verdict, logCase, acceptedBy}
+use Rattle.answers.specs.declared.Answer.{Answer}
+use Rattle.answers.specs.declared.Case.{Case}
+use Rattle.logs.specs.Runs.{codes as codesOf}
+use Rattle.answers.specs.Answers.{verdict, logCase, acceptedBy}
 use Rattle.mesh.specs.declared.cells.Cell.{Cell}
 use Rattle.mesh.specs.Cells.{cellAt}
 use Rattle.mover.specs.Runs.{runsOf}

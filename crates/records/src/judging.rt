@@ -1,19 +1,19 @@
 // The checks of concentrate and distribute, and the runs of the moves that a cut run makes.
-use array::answers::Answer;
-use array::answers::Case;
-use array::answers::lane_case;
-use array::answers::refusing;
-use array::answers::side_case;
+use answers::Answer;
+use answers::Case;
+use answers::lane_case;
+use answers::refusing;
+use answers::side_case;
 use array::cells::is_cell;
 use array::cells::is_side;
-use array::lists::no_runs;
-use array::moves::Run;
+use logs::Run;
+use logs::no_runs;
 ghost use mathlib.Core.Path.{_≡_};
 ghost use mathlib.Core.Bool.{true, false, _&&_};
 ghost use Prim.Native.Nat.{ℕ, _-_, _<_, _≤_, min};
 ghost use lib.Dec.{ltb};
 ghost use lib.ListN.{length, getD};
-ghost use Rattle.array.specs.Answers.{verdict};
+ghost use Rattle.answers.specs.Answers.{verdict};
 ghost use Rattle.array.specs.Cells.{isSide};
 ghost use Rattle.records.specs.Cases.{badIn, aimsCase, totalMoves, cutCase, laneCases};
 ghost use Rattle.records.specs.Cuts.{firstRuns};

@@ -10,15 +10,15 @@ use lib.IntN.{ℤ}
 use lib.ListN.{length, getD}
 use borrow.Author.Tests.{ltb-true}
 use Rattle.laws.proofs.Bools.{both-left, both-right}
-use Rattle.array.specs.declared.moves.Run.{Run}
+use Rattle.logs.specs.declared.Run.{Run}
 use Rattle.array.specs.declared.moves.Way.{Way}
-use Rattle.array.specs.declared.shifts.Axis.{Axis}
-use Rattle.array.specs.declared.shifts.Distance.{Distance}
-use Rattle.array.specs.declared.shifts.Edge.{Edge}
-use Rattle.array.specs.declared.shifts.Edge.the-variants.{ZeroFill, Circular}
+use Rattle.shifts.specs.declared.Axis.{Axis}
+use Rattle.shifts.specs.declared.Distance.{Distance}
+use Rattle.shifts.specs.declared.Edge.{Edge}
+use Rattle.shifts.specs.declared.Edge.the-variants.{ZeroFill, Circular}
 use Rattle.array.specs.Cells.{place, row, column}
 use Rattle.array.specs.Moves.{opposite}
-use Rattle.array.specs.Shifts.{distanceOf, within, modulo, forthMoves, backMoves, shiftRuns}
+use Rattle.shifts.specs.Shifts.{distanceOf, within, modulo, forthMoves, backMoves, shiftRuns}
 use Rattle.array.proofs.Board.{place-of}
 use Rattle.light.specs.Lane.{isBoard, swappedLane}
 use Rattle.lanes.specs.declared.Combining.the-variants.{Take}

@@ -12,13 +12,14 @@ use borrow.Author.Tests.{lt-ltb, le-ltb, ltb-true}
 use Rattle.laws.proofs.Bools.{both-left}
 use Rattle.array.specs.declared.moves.Way.{Way}
 use Rattle.array.specs.declared.moves.Way.the-variants.{Right, Left, Up, Down}
-use Rattle.array.specs.declared.shifts.Axis.{Axis}
-use Rattle.array.specs.declared.shifts.Axis.the-variants.{MeshRow, MeshColumn, GroupRow, GroupColumn}
-use Rattle.array.specs.declared.shifts.Edge.{Edge}
-use Rattle.array.specs.declared.shifts.Edge.the-variants.{ZeroFill, Circular}
-use Rattle.array.specs.Moves.{moves, along, opposite}
-use Rattle.array.specs.declared.shifts.Distance.{Distance}
-use Rattle.array.specs.Shifts.{distanceOf, within, modulo, forthMoves, backMoves, shiftList}
+use Rattle.shifts.specs.declared.Axis.{Axis}
+use Rattle.shifts.specs.declared.Axis.the-variants.{MeshRow, MeshColumn, GroupRow, GroupColumn}
+use Rattle.shifts.specs.declared.Edge.{Edge}
+use Rattle.shifts.specs.declared.Edge.the-variants.{ZeroFill, Circular}
+use Rattle.array.specs.Moves.{opposite}
+use Rattle.logs.specs.Runs.{moves, along}
+use Rattle.shifts.specs.declared.Distance.{Distance}
+use Rattle.shifts.specs.Shifts.{distanceOf, within, modulo, forthMoves, backMoves, shiftList}
 use Rattle.lanes.specs.Machine.{State, Stage, fromBefore, fromAfter, ran, all, runsOf, load, unload}
 use Rattle.lanes.specs.Stages.{position, filled}
 use Rattle.slides.specs.Programs.{Shifting, loadShift, forth, takesBack, back, shift, shiftedBy}

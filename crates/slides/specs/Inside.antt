@@ -6,9 +6,9 @@ use lib.ListN.{getD}
 use lib.Dec.{ltb}
 use Rattle.array.specs.declared.moves.Way.{Way}
 use Rattle.array.specs.declared.moves.Way.the-variants.{Right, Down}
-use Rattle.array.specs.declared.shifts.Axis.{Axis}
-use Rattle.array.specs.declared.shifts.Axis.the-variants.{MeshRow, MeshColumn, GroupRow, GroupColumn}
-use Rattle.array.specs.declared.shifts.Edge.{Edge}
+use Rattle.shifts.specs.declared.Axis.{Axis}
+use Rattle.shifts.specs.declared.Axis.the-variants.{MeshRow, MeshColumn, GroupRow, GroupColumn}
+use Rattle.shifts.specs.declared.Edge.{Edge}
 use Rattle.array.specs.Cells.{place, row, column}
 use Rattle.array.specs.Moves.{opposite}
 use Rattle.lanes.specs.declared.Joining.the-variants.{Fill}

@@ -4,12 +4,13 @@ use mathlib.Core.Bool.{Bool, true, cond}
 use mathlib.Core.Option.{Option}
 use mathlib.Core.List.{List, [], _∷_}
 use lib.Dec.{ltb}
-use Rattle.array.specs.declared.shifts.Axis.{Axis}
-use Rattle.array.specs.declared.shifts.Edge.{Edge}
-use Rattle.array.specs.declared.shifts.Edge.the-variants.{ZeroFill, Circular}
-use Rattle.array.specs.declared.shifts.Distance.{Distance}
-use Rattle.array.specs.Moves.{along, opposite}
-use Rattle.array.specs.Shifts.{forthMoves, backMoves, forthWay, swapsOf}
+use Rattle.shifts.specs.declared.Axis.{Axis}
+use Rattle.shifts.specs.declared.Edge.{Edge}
+use Rattle.shifts.specs.declared.Edge.the-variants.{ZeroFill, Circular}
+use Rattle.shifts.specs.declared.Distance.{Distance}
+use Rattle.array.specs.Moves.{opposite}
+use Rattle.logs.specs.Runs.{along}
+use Rattle.shifts.specs.Shifts.{forthMoves, backMoves, forthWay, swapsOf}
 use Rattle.lanes.specs.Machine.{State, Stage, made}
 use Rattle.lanes.specs.Stages.{position, light, filled}
 

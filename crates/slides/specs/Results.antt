@@ -6,12 +6,12 @@ use mathlib.Core.List.{List}
 use lib.IntN.{ℤ}
 use lib.ListN.{length}
 use lib.Dec.{ltb}
-use Rattle.array.specs.declared.shifts.Axis.{Axis}
-use Rattle.array.specs.declared.shifts.Axis.the-variants.{MeshRow, MeshColumn, GroupRow, GroupColumn}
-use Rattle.array.specs.declared.shifts.Edge.{Edge}
-use Rattle.array.specs.declared.shifts.Edge.the-variants.{ZeroFill, Circular}
-use Rattle.array.specs.declared.shifts.Distance.{Distance}
-use Rattle.array.specs.Shifts.{distanceOf, within, modulo}
+use Rattle.shifts.specs.declared.Axis.{Axis}
+use Rattle.shifts.specs.declared.Axis.the-variants.{MeshRow, MeshColumn, GroupRow, GroupColumn}
+use Rattle.shifts.specs.declared.Edge.{Edge}
+use Rattle.shifts.specs.declared.Edge.the-variants.{ZeroFill, Circular}
+use Rattle.shifts.specs.declared.Distance.{Distance}
+use Rattle.shifts.specs.Shifts.{distanceOf, within, modulo}
 use Rattle.light.specs.Lane.{isBoard}
 use Rattle.lanes.specs.Machine.{State, load, unload}
 

@@ -1,17 +1,17 @@
 // The eight shifts, on a lane of words.
 use array::moves::Way;
 use array::moves::opposite;
-use array::shifts::Axis;
-use array::shifts::Edge;
-use array::shifts::distance_of;
-use array::shifts::is_within;
-use array::shifts::shift_runs;
 use lanes::Combining;
 use lanes::Joining;
 use lanes::combine;
 use lanes::run;
 use light::is_board;
 use light::swap_words;
+use shifts::Axis;
+use shifts::Edge;
+use shifts::distance_of;
+use shifts::is_within;
+use shifts::shift_runs;
 ghost use mathlib.Core.Path.{_≡_};
 ghost use mathlib.Core.Bool.{cond};
 ghost use Prim.Native.Nat.{_≤_, _<_};

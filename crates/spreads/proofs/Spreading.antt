@@ -8,7 +8,7 @@ use native.Mathlib.Nat.{zero-add, mod-eq-of-lt}
 use lib.ListN.{getD}
 use Rattle.laws.specs.Sums.{sum}
 use Rattle.array.specs.Cells.{cells, group, row, column}
-use Rattle.array.specs.Lists.{broadcastList, dataSumRuns}
+use Rattle.lists.specs.Lists.{broadcastList, dataSumRuns}
 use Rattle.array.specs.declared.moves.Way.the-variants.{Right, Left, Up, Down}
 use Rattle.lanes.specs.Machine.{State, Rule, fromBefore, fromAfter, all, made, runsOf, at, load, unload}
 use Rattle.lanes.specs.Stages.{front, copy, plus}

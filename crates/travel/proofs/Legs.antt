@@ -9,8 +9,9 @@ use Rattle.array.specs.declared.moves.Way.the-variants.{Right, Left, Up, Down}
 use Rattle.array.specs.declared.moves.Move.the-variants.{Swap, Electronic}
 use Rattle.travel.specs.declared.turns.Turn.{Turn}
 use Rattle.array.specs.Cells.{groups, cell, group}
-use Rattle.array.specs.Moves.{along, swapping, opposite}
-use Rattle.array.specs.Lists.{concentrateRuns, distributeRuns}
+use Rattle.array.specs.Moves.{opposite}
+use Rattle.logs.specs.Runs.{along, swapping}
+use Rattle.lists.specs.Lists.{concentrateRuns, distributeRuns}
 use Rattle.travel.specs.Turns.{turnIn}
 use Rattle.travel.specs.Travel.{heading, stands}
 use Rattle.travel.proofs.Listed.{inRun, timesOf, swapsMade, turn-in-run}

@@ -12,9 +12,9 @@ use lib.Seq.{drop-cons}
 use Rattle.array.specs.declared.moves.Way.{Way}
 use Rattle.array.specs.declared.moves.Move.{Move}
 use Rattle.array.specs.declared.moves.Move.the-variants.{Swap, Electronic}
-use Rattle.array.specs.declared.moves.Run.{Run}
+use Rattle.logs.specs.declared.Run.{Run}
 use Rattle.travel.specs.declared.turns.Turn.{Turn}
-use Rattle.array.specs.Moves.{swapsIn, moves}
+use Rattle.logs.specs.Runs.{swapsIn, moves}
 use Rattle.travel.specs.Turns.{turnIn}
 
 -- n moves one way, one by one

@@ -13,7 +13,7 @@ use Rattle.array.specs.declared.moves.Move.{Move}
 use Rattle.array.specs.declared.moves.Move.the-variants.{Swap, Electronic}
 use Rattle.array.specs.Cells.{cells, cell, place, group, partner}
 use Rattle.travel.proofs.Listed.{swapsOf, turn-step, turn-swaps}
-use Rattle.array.specs.Lists.{concentrateRuns}
+use Rattle.lists.specs.Lists.{concentrateRuns}
 use Rattle.travel.specs.Travel.{concentrateMoves, toward, heading, travel, stands}
 use Rattle.travel.specs.Turns.{turnIn}
 use Rattle.travel.proofs.Walk.{seat, Heads, seat<, start, right, left, up, down}

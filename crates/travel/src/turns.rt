@@ -1,7 +1,7 @@
 // One move of a list of runs.
 use array::moves::Move;
-use array::moves::Run;
-use array::moves::swaps_in;
+use logs::Run;
+use logs::swaps_in;
 ghost use mathlib.Core.Path.{_≡_};
 ghost use Rattle.travel.specs.Turns.{turnAt};
 

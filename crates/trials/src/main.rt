@@ -1,8 +1,8 @@
 // The entries on words, tried on bad input and beside it on good: what each answers, and what it leaves in the words and the log.
 // A line: the name of the operation; number, place, electronic moves and swaps; the first 17 words; the first 10 codes.
-use array::answers::Answer;
-use array::shifts::Axis;
-use array::shifts::Edge;
+use answers::Answer;
+use shifts::Axis;
+use shifts::Edge;
 ghost use Prim.Native.Nat.{_≤_};
 
 const WORDS: [u32; 17] = [1, 2, 3, 4, 5, 6, 7, 8, 9, 10, 11, 12, 13, 14, 15, 16, 17];

@@ -10,22 +10,24 @@ use lib.ListN.{length, drop, length-map}
 use lib.Seq.{sets, sets-eq}
 use borrow.Author.Tests.{not-false, ltb-true, ltb-false, eqb-true, eq-eqb, ne-eqb}
 use Rattle.laws.proofs.Bools.{both-left, both-right}
-use Rattle.array.specs.declared.answers.Answer.{Answer}
-use Rattle.array.specs.declared.answers.Case.{Case}
-use Rattle.array.specs.declared.moves.Run.{Run}
-use Rattle.array.specs.declared.shifts.Axis.{Axis}
-use Rattle.array.specs.declared.shifts.Axis.the-variants.{MeshRow, MeshColumn, GroupRow, GroupColumn}
-use Rattle.array.specs.declared.shifts.Edge.{Edge}
-use Rattle.array.specs.declared.shifts.Edge.the-variants.{ZeroFill, Circular}
-use Rattle.array.specs.declared.shifts.Distance.{Distance}
+use Rattle.answers.specs.declared.Answer.{Answer}
+use Rattle.answers.specs.declared.Case.{Case}
+use Rattle.logs.specs.declared.Run.{Run}
+use Rattle.shifts.specs.declared.Axis.{Axis}
+use Rattle.shifts.specs.declared.Axis.the-variants.{MeshRow, MeshColumn, GroupRow, GroupColumn}
+use Rattle.shifts.specs.declared.Edge.{Edge}
+use Rattle.shifts.specs.declared.Edge.the-variants.{ZeroFill, Circular}
+use Rattle.shifts.specs.declared.Distance.{Distance}
 use Rattle.array.specs.Cells.{isSide, groups, cells, isCell}
-use Rattle.array.specs.Moves.{moves, codes, codeOf, electronic, swaps}
-use Rattle.array.specs.Lists.{broadcastList, broadcastRuns, dataSumRuns, prefixSumRuns}
-use Rattle.array.specs.Shifts.{distanceOf, within, forthMoves, backMoves, swapsOf, shiftList, shiftRuns}
-use Rattle.array.specs.Answers.{accepted, refusing, verdict, whereAccepted, sideCase, laneCase, logCase, acceptedBy}
+use Rattle.array.specs.Moves.{codeOf}
+use Rattle.logs.specs.Runs.{moves, codes, electronic, swaps}
+use Rattle.lists.specs.Lists.{broadcastList, broadcastRuns, dataSumRuns, prefixSumRuns}
+use Rattle.shifts.specs.Shifts.{distanceOf, within, forthMoves, backMoves, swapsOf, shiftList, shiftRuns}
+use Rattle.answers.specs.Answers.{accepted, refusing, verdict, whereAccepted, sideCase, laneCase, logCase, acceptedBy}
 use Rattle.array.proofs.Board.{Side, side-known, cell-known}
-use Rattle.array.proofs.Counts.{data-sum-electronic, prefix-sum-electronic, broadcast-electronic, zero-fill-electronic, circular-electronic, shift-swaps}
-use Rattle.array.proofs.Verdicts.{NoneApplies, none-applies, accepted-counts}
+use Rattle.lists.proofs.Counts.{data-sum-electronic, prefix-sum-electronic, broadcast-electronic}
+use Rattle.shifts.proofs.Counts.{zero-fill-electronic, circular-electronic, shift-swaps}
+use Rattle.answers.proofs.Verdicts.{NoneApplies, none-applies, accepted-counts}
 use Rattle.lanes.specs.Inside.{Board}
 use Rattle.words.specs.Entries.{cellCase, distanceCase, groupCase, shiftElectronic, broadcastAnswer, dataSumAnswer, prefixSumAnswer, shiftAnswer, groupAnswer, logged, Entry}
 

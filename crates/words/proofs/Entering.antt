@@ -6,13 +6,13 @@ use native.Mathlib.Nat.{mul-le-mul-right, suc-mul}
 use lib.IntN.{ℤ}
 use lib.ListN.{length}
 use lib.Seq.{sets}
-use Rattle.array.specs.declared.answers.Answer.{Answer}
-use Rattle.array.specs.declared.shifts.Axis.{Axis}
-use Rattle.array.specs.declared.shifts.Edge.{Edge}
+use Rattle.answers.specs.declared.Answer.{Answer}
+use Rattle.shifts.specs.declared.Axis.{Axis}
+use Rattle.shifts.specs.declared.Edge.{Edge}
 use Rattle.array.specs.Cells.{groups}
-use Rattle.array.specs.Moves.{codes}
-use Rattle.array.specs.Lists.{broadcastRuns, dataSumRuns, prefixSumRuns}
-use Rattle.array.specs.Shifts.{shiftRuns}
+use Rattle.logs.specs.Runs.{codes}
+use Rattle.lists.specs.Lists.{broadcastRuns, dataSumRuns, prefixSumRuns}
+use Rattle.shifts.specs.Shifts.{shiftRuns}
 use Rattle.lanes.proofs.Held.{board-is}
 use Rattle.spreads.specs.Results.{broadcastLane, dataSumLane}
 use Rattle.prefix.specs.Results.{prefixSumLane}

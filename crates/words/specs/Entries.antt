@@ -6,18 +6,18 @@ use mathlib.Core.List.{List, [], _∷_, _++_}
 use lib.IntN.{ℤ}
 use lib.Dec.{ltb}
 use lib.ListN.{length, take, drop}
-use Rattle.array.specs.declared.answers.Answer.{Answer}
-use Rattle.array.specs.declared.answers.Case.{Case}
-use Rattle.array.specs.declared.moves.Run.{Run}
-use Rattle.array.specs.declared.shifts.Axis.{Axis}
-use Rattle.array.specs.declared.shifts.Edge.{Edge}
-use Rattle.array.specs.declared.shifts.Edge.the-variants.{ZeroFill, Circular}
-use Rattle.array.specs.declared.shifts.Distance.{Distance}
+use Rattle.answers.specs.declared.Answer.{Answer}
+use Rattle.answers.specs.declared.Case.{Case}
+use Rattle.logs.specs.declared.Run.{Run}
+use Rattle.shifts.specs.declared.Axis.{Axis}
+use Rattle.shifts.specs.declared.Edge.{Edge}
+use Rattle.shifts.specs.declared.Edge.the-variants.{ZeroFill, Circular}
+use Rattle.shifts.specs.declared.Distance.{Distance}
 use Rattle.array.specs.Cells.{groups, cell, isCell}
-use Rattle.array.specs.Moves.{moves, codes}
-use Rattle.array.specs.Lists.{broadcastRuns, dataSumRuns, prefixSumRuns}
-use Rattle.array.specs.Shifts.{distanceOf, within, swapsOf, shiftRuns}
-use Rattle.array.specs.Answers.{accepted, verdict, whereAccepted, sideCase, laneCase, logCase}
+use Rattle.logs.specs.Runs.{moves, codes}
+use Rattle.lists.specs.Lists.{broadcastRuns, dataSumRuns, prefixSumRuns}
+use Rattle.shifts.specs.Shifts.{distanceOf, within, swapsOf, shiftRuns}
+use Rattle.answers.specs.Answers.{accepted, verdict, whereAccepted, sideCase, laneCase, logCase}
 use Rattle.spreads.specs.Results.{broadcastWords, dataSumWords}
 use Rattle.prefix.specs.Results.{prefixSumWords}
 use Rattle.slides.specs.Results.{shiftWords}

@@ -1,20 +1,20 @@
 // The operations that use words only: broadcast, data sum, prefix sum and the eight shifts, and a group's own stretch of words.
-mod answers;
+mod judging;
 
-use crate::answers::broadcast_answer;
-use crate::answers::data_sum_answer;
-use crate::answers::group_answer;
-use crate::answers::prefix_sum_answer;
-use crate::answers::shift_answer;
-use array::answers::Answer;
-use array::lists::broadcast_runs;
-use array::lists::data_sum_runs;
-use array::lists::prefix_sum_runs;
-use array::logs::write_codes;
-use array::shifts::Axis;
-use array::shifts::Edge;
-use array::shifts::shift_runs;
+use crate::judging::broadcast_answer;
+use crate::judging::data_sum_answer;
+use crate::judging::group_answer;
+use crate::judging::prefix_sum_answer;
+use crate::judging::shift_answer;
+use answers::Answer;
+use lists::broadcast_runs;
+use lists::data_sum_runs;
+use lists::prefix_sum_runs;
+use logs::write_codes;
 use prefix::prefix_words;
+use shifts::Axis;
+use shifts::Edge;
+use shifts::shift_runs;
 use slides::shift_words;
 use spreads::broadcast_words;
 use spreads::data_sum_words;

@@ -3,7 +3,7 @@ use mathlib.Core.Path.{sym, ap, _∙_}
 use mir.Syntax.{w32}
 use mir.ValLaws.{toZ-ofZ}
 use borrow.Author.Tests.{not-true, not-false}
-use Rattle.array.specs.Shifts.{shiftRuns}
+use Rattle.shifts.specs.Shifts.{shiftRuns}
 use Rattle.lanes.proofs.Held.{board-known}
 use Rattle.slides.proofs.Composing.{within-is, forth-times, home-times, forth-few, back-few, shift-done}
 use borrow.Author.Needs.{needs}

@@ -6,7 +6,7 @@ use native.Mathlib.Omega.{arith}
 use borrow.Author.Needs.{needs}
 use borrow.Author.Tests.{not-true, not-false}
 use lib.ListN.{length}
-use Rattle.array.specs.declared.moves.Run.{Run}
+use Rattle.logs.specs.declared.Run.{Run}
 use Rattle.array.proofs.Board.{side-known}
 use Rattle.travel.specs.Turns.{turnAt}
 use Rattle.mesh.specs.Cells.{cellAt}

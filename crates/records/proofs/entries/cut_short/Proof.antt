@@ -1,7 +1,7 @@
 -- `records::entries::cut_short` meets its contract: a refusal changes nothing; else the moves are made, with no log.
 use mathlib.Core.Path.{refl}
 use lib.ListN.{length}
-use Rattle.array.specs.Answers.{acceptedBy}
+use Rattle.answers.specs.Answers.{acceptedBy}
 use Rattle.mover.specs.Runs.{runsOf}
 use Rattle.records.specs.Cuts.{firstRuns}
 use Rattle.records.proofs.Verdicting.{cut-known, fitting-sized}

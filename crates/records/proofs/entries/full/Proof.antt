@@ -4,9 +4,9 @@ use native.Mathlib.Omega.{arith}
 use lib.ListN.{length}
 use lib.Seq.{sets}
 use mathlib.Core.List.{List}
-use Rattle.array.specs.declared.moves.Run.{Run}
-use Rattle.array.specs.Moves.{codes as codesOf}
-use Rattle.array.specs.Answers.{acceptedBy}
+use Rattle.logs.specs.declared.Run.{Run}
+use Rattle.logs.specs.Runs.{codes as codesOf}
+use Rattle.answers.specs.Answers.{acceptedBy}
 use Rattle.array.proofs.Board.{side-known}
 use Rattle.mover.specs.Runs.{runsOf}
 use Rattle.records.proofs.Verdicting.{full-known, fitting-sized}

@@ -1,7 +1,7 @@
 -- `records::entries::judge_cut` meets its contract: the aims are judged once the marks are good (Verdicting).
 use mathlib.Core.Path.{ap, ap₂, _∙_}
 use lib.ListN.{length}
-use Rattle.array.specs.Answers.{refusing, acceptedBy}
+use Rattle.answers.specs.Answers.{refusing, acceptedBy}
 use Rattle.mover.specs.Runs.{runsOf}
 use Rattle.records.specs.Cases.{aimsCase, cutCase}
 use Rattle.records.specs.Cuts.{firstRuns}

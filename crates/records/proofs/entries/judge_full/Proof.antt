@@ -2,7 +2,7 @@
 use Rattle.records.proofs.Verdicting.{full-halfway, earlyFull, at-once, none-yet, later, full-early, refuse-full}
 use mathlib.Core.Path.{ap, ap₂, _∙_}
 use lib.ListN.{length}
-use Rattle.array.specs.Answers.{refusing, acceptedBy}
+use Rattle.answers.specs.Answers.{refusing, acceptedBy}
 use Rattle.mover.specs.Runs.{runsOf}
 use Rattle.records.specs.Cases.{aimsCase}
 use borrow.Author.Needs.{needs}

@@ -1,7 +1,7 @@
 -- `records::judging::refusing_lanes` meets its contract: case after case in the order of their numbers.
-use Rattle.array.specs.Answers.{refusing}
+use Rattle.answers.specs.Answers.{refusing}
 use mathlib.Core.Path.{ap, ap₂, _∙_}
-use Rattle.array.specs.declared.answers.Case.{Case}
+use Rattle.answers.specs.declared.Case.{Case}
 use borrow.Author.Needs.{needs}
 use Rattle.records.proofs.judging.refusing_lanes.Statement.{statement}
 use Rattle.records.proofs.judging.refusing_lanes.Tie as tie

@@ -1,8 +1,8 @@
--- `words::answers::prefix_sum_answer` meets its contract: the three cases in their order, and the counts of the list.
+-- `words::judging::prefix_sum_answer` meets its contract: the three cases in their order, and the counts of the list.
 use Rattle.words.proofs.Answering.{prefix-sum-counts}
 use borrow.Author.Needs.{needs}
-use Rattle.words.proofs.answers.prefix_sum_answer.Statement.{statement}
-use Rattle.words.proofs.answers.prefix_sum_answer.Tie as tie
+use Rattle.words.proofs.judging.prefix_sum_answer.Statement.{statement}
+use Rattle.words.proofs.judging.prefix_sum_answer.Tie as tie
 
 prefix-sum-runs-requires : tie.Need-prefix-sum-runs-requires
 prefix-sum-runs-requires c κs = search needs

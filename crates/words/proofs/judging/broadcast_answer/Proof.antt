@@ -1,8 +1,8 @@
--- `words::answers::broadcast_answer` meets its contract: the four cases in their order, and the counts of the list.
+-- `words::judging::broadcast_answer` meets its contract: the four cases in their order, and the counts of the list.
 use Rattle.words.proofs.Answering.{broadcast-counts}
 use borrow.Author.Needs.{needs}
-use Rattle.words.proofs.answers.broadcast_answer.Statement.{statement}
-use Rattle.words.proofs.answers.broadcast_answer.Tie as tie
+use Rattle.words.proofs.judging.broadcast_answer.Statement.{statement}
+use Rattle.words.proofs.judging.broadcast_answer.Tie as tie
 
 broadcast-runs-requires : tie.Need-broadcast-runs-requires
 broadcast-runs-requires c κs = search needs

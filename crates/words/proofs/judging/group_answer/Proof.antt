@@ -1,12 +1,12 @@
--- `words::answers::group_answer` meets its contract: the three cases in their order.
+-- `words::judging::group_answer` meets its contract: the three cases in their order.
 use mathlib.Core.Path.{_∙_, ap}
 use mathlib.Core.List.{[], _∷_}
-use Rattle.array.specs.Answers.{verdict, sideCase, laneCase}
+use Rattle.answers.specs.Answers.{verdict, sideCase, laneCase}
 use Rattle.words.specs.Entries.{groupCase}
 use Rattle.words.proofs.Answering.{three-cases}
 use borrow.Author.Needs.{needs}
-use Rattle.words.proofs.answers.group_answer.Statement.{statement}
-use Rattle.words.proofs.answers.group_answer.Tie as tie
+use Rattle.words.proofs.judging.group_answer.Statement.{statement}
+use Rattle.words.proofs.judging.group_answer.Tie as tie
 
 side-case-requires : tie.Need-side-case-requires
 side-case-requires c κs = search needs

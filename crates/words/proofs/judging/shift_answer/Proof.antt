@@ -1,10 +1,10 @@
--- `words::answers::shift_answer` meets its contract: the four cases in their order, and the counts of the list.
+-- `words::judging::shift_answer` meets its contract: the four cases in their order, and the counts of the list.
 use mir.Syntax.{w32}
 use mir.ValLaws.{toZ-ofZ}
 use Rattle.words.proofs.Answering.{shift-counts}
 use borrow.Author.Needs.{needs}
-use Rattle.words.proofs.answers.shift_answer.Statement.{statement}
-use Rattle.words.proofs.answers.shift_answer.Tie as tie
+use Rattle.words.proofs.judging.shift_answer.Statement.{statement}
+use Rattle.words.proofs.judging.shift_answer.Tie as tie
 
 shift-runs-requires : tie.Need-shift-runs-requires
 shift-runs-requires c κs = search needs

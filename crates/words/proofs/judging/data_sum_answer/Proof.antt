@@ -1,8 +1,8 @@
--- `words::answers::data_sum_answer` meets its contract: the three cases in their order, and the counts of the list.
+-- `words::judging::data_sum_answer` meets its contract: the three cases in their order, and the counts of the list.
 use Rattle.words.proofs.Answering.{data-sum-counts}
 use borrow.Author.Needs.{needs}
-use Rattle.words.proofs.answers.data_sum_answer.Statement.{statement}
-use Rattle.words.proofs.answers.data_sum_answer.Tie as tie
+use Rattle.words.proofs.judging.data_sum_answer.Statement.{statement}
+use Rattle.words.proofs.judging.data_sum_answer.Tie as tie
 
 data-sum-runs-requires : tie.Need-data-sum-runs-requires
 data-sum-runs-requires c κs = search needs
