@@ -14,10 +14,10 @@ use Rattle.laws.proofs.Tables.{length-entries, entry-at}
 use Rattle.array.specs.Cells.{cells}
 use Rattle.array.proofs.Board.{side-known}
 use Rattle.light.specs.Lane.{isBoard}
-use Rattle.words.specs.Machine.{load, unload}
-use Rattle.words.specs.Programs.{prefixed}
-use Rattle.words.specs.Results.{prefixSumWords}
-use Rattle.words.proofs.Adding.{prefixSum-all}
+use Rattle.lanes.specs.Machine.{load, unload}
+use Rattle.prefix.specs.Programs.{prefixed}
+use Rattle.prefix.specs.Results.{prefixSumWords}
+use Rattle.prefix.proofs.Adding.{prefixSum-all}
 use Rattle.ranking.specs.Inside.{Summed, Marked}
 use Rattle.ranking.specs.Ranks.{aimIn, aimOf, ranks}
 

@@ -8,7 +8,7 @@ use answers::side_case;
 use lists::prefix_sum_runs;
 use logs::write_codes;
 use marks::marks_case;
-use words::sums::prefix_words;
+use prefix::prefix_words;
 ghost use mathlib.Core.Path.{_≡_};
 ghost use Prim.Native.Nat.{_≤_};
 ghost use lib.ListN.{length};

@@ -11,9 +11,14 @@ use Rattle.logs.specs.Runs.{moves, codes as codesOf}
 use Rattle.lists.specs.Lists.{dataSumRuns, prefixSumRuns}
 use Rattle.shifts.specs.Shifts.{distanceOf, shiftRuns}
 use Rattle.answers.specs.Answers.{verdict, acceptedBy}
-use Rattle.words.specs.Machine.{load, unload, made, runsOf as programRuns}
-use Rattle.words.specs.Programs.{front, prefixSum, prefixed, dataSum, shift, shiftedBy}
-use Rattle.words.specs.Results.{dataSumWords, prefixSumWords, shiftWords}
+use Rattle.lanes.specs.Machine.{load, unload, made, runsOf as programRuns}
+use Rattle.lanes.specs.Stages.{front}
+use Rattle.spreads.specs.Programs.{dataSum}
+use Rattle.spreads.specs.Results.{dataSumWords}
+use Rattle.prefix.specs.Programs.{prefixSum, prefixed}
+use Rattle.prefix.specs.Results.{prefixSumWords}
+use Rattle.slides.specs.Programs.{shift, shiftedBy}
+use Rattle.slides.specs.Results.{shiftWords}
 use Rattle.words.specs.Entries.{dataSumAnswer, prefixSumAnswer, shiftAnswer}
 use Rattle.mesh.specs.declared.cells.Cell.{Cell}
 use Rattle.mesh.specs.Cells.{joined, cellAt}

@@ -28,7 +28,7 @@ use Rattle.array.proofs.Board.{Side, side-known, cell-known}
 use Rattle.lists.proofs.Counts.{data-sum-electronic, prefix-sum-electronic, broadcast-electronic}
 use Rattle.shifts.proofs.Counts.{zero-fill-electronic, circular-electronic, shift-swaps}
 use Rattle.answers.proofs.Verdicts.{NoneApplies, none-applies, accepted-counts}
-use Rattle.words.specs.Inside.{Board}
+use Rattle.lanes.specs.Inside.{Board}
 use Rattle.words.specs.Entries.{cellCase, distanceCase, groupCase, shiftElectronic, broadcastAnswer, dataSumAnswer, prefixSumAnswer, shiftAnswer, groupAnswer, logged, Entry}
 
 -- answers that agree where no case applies
@@ -127,7 +127,7 @@ prefix-sum-room s n log r e h =
 
 pub record BroadcastRoom (s i n log : ℕ) : Type 0 where
   pub known : Room s n (broadcastRuns s i) log
-  pub inside : i < cells s
+  pub inside : isCell s i ≡ true
 
 pub broadcast-room : (s i n log : ℕ) (r : Answer) → r ≡ broadcastAnswer s i n log → r .number ≡ 0 → BroadcastRoom s i n log
 broadcast-room s i n log r e h =
@@ -135,13 +135,12 @@ broadcast-room s i n log r e h =
     let k = none-applies cs _ (omega arith, (omega arith, (omega arith, (omega arith, tt)))) (rw e at h) in
     record {
       known = room s n (broadcastRuns s i) log (k .0) (k .1 .0) (k .1 .1 .0);
-      inside = cell-known s i (not-false (isCell s i) (k .1 .1 .1 .0)) .inside;
+      inside = not-false (isCell s i) (k .1 .1 .1 .0);
     }
 
 pub record ShiftRoom (s : ℕ) (axis : Axis) (edge : Edge) (k : ℤ) (n log : ℕ) : Type 0 where
   pub known : Room s n (shiftRuns s axis edge k) log
   pub near : within s (distanceOf k) ≡ true
-  pub list-is : shiftRuns s axis edge k ≡ shiftList axis (forthMoves edge s (distanceOf k)) (backMoves edge s (distanceOf k))
 
 pub shift-room : (s : ℕ) (axis : Axis) (edge : Edge) (k : ℤ) (n log : ℕ) (r : Answer) → r ≡ shiftAnswer s axis edge k n log → r .number ≡ 0
     → ShiftRoom s axis edge k n log
@@ -149,7 +148,7 @@ shift-room s axis edge k n log r e h =
     let cs = sideCase s ∷ laneCase s n ∷ logCase (shiftRuns s axis edge k) log ∷ distanceCase s k ∷ [] in
     let z = none-applies cs _ (omega arith, (omega arith, (omega arith, (omega arith, tt)))) (rw e at h) in
     let w = not-false (within s (distanceOf k)) (z .1 .1 .1 .0) in
-    record { known = room s n (shiftRuns s axis edge k) log (z .0) (z .1 .0) (z .1 .1 .0); near = w; list-is = shift-listed s axis edge k w }
+    record { known = room s n (shiftRuns s axis edge k) log (z .0) (z .1 .0) (z .1 .1 .0); near = w }
 
 pub record GroupRoom (s g n : ℕ) : Type 0 where
   pub board : Board s n

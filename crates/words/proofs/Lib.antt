@@ -1,14 +1,2 @@
-pub mod Adding
 pub mod Answering
-pub mod Composing
-pub mod Coordinates
 pub mod Entering
-pub mod Laying
-pub mod Lines
-pub mod Shifting
-pub mod Spots
-pub mod Spotted
-pub mod Spreading
-pub mod Stepping
-pub mod Sweeping
-pub mod Views

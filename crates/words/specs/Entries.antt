@@ -18,7 +18,9 @@ use Rattle.logs.specs.Runs.{moves, codes}
 use Rattle.lists.specs.Lists.{broadcastRuns, dataSumRuns, prefixSumRuns}
 use Rattle.shifts.specs.Shifts.{distanceOf, within, swapsOf, shiftRuns}
 use Rattle.answers.specs.Answers.{accepted, verdict, whereAccepted, sideCase, laneCase, logCase}
-use Rattle.words.specs.Results.{broadcastWords, dataSumWords, prefixSumWords, shiftWords}
+use Rattle.spreads.specs.Results.{broadcastWords, dataSumWords}
+use Rattle.prefix.specs.Results.{prefixSumWords}
+use Rattle.slides.specs.Results.{shiftWords}
 
 -- 4: there is no such cell; the distance is not within the side; there is no such group
 abbrev pub cellCase : ℕ → ℕ → Case

@@ -1,5 +1,1 @@
 pub mod Entries
-pub mod Inside
-pub mod Machine
-pub mod Programs
-pub mod Results

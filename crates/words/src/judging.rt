@@ -3,39 +3,23 @@ use answers::Answer;
 use answers::Case;
 use answers::accepted;
 use answers::accepted_by;
+use answers::checked;
 use answers::lane_case;
-use answers::log_case;
 use answers::refusing;
 use answers::side_case;
 use array::cells::is_cell;
 use lists::broadcast_runs;
 use lists::data_sum_runs;
 use lists::prefix_sum_runs;
-use logs::Run;
 use shifts::Axis;
 use shifts::Edge;
 use shifts::distance_of;
 use shifts::is_within;
 use shifts::shift_runs;
 ghost use mathlib.Core.Path.{_≡_};
-ghost use mathlib.Core.List.{[], _∷_};
 ghost use lib.Dec.{ltb};
 ghost use Rattle.array.specs.Cells.{groups};
-ghost use Rattle.answers.specs.Answers.{verdict, sideCase, laneCase, logCase};
 ghost use Rattle.words.specs.Entries.{cellCase, distanceCase, groupCase, broadcastAnswer, dataSumAnswer, prefixSumAnswer, shiftAnswer, groupAnswer};
-
-// The cases that every operation on a lane and a log has; and else the other answer.
-fn judged(side: usize, length: usize, runs: [Run; 9], log: usize, otherwise: Answer) -> Answer
-    ensures { λ r. ⌜ r ≡ verdict (sideCase side ∷ laneCase side length ∷ logCase runs log ∷ []) otherwise ⌝ }
-{
-    refusing(
-        side_case(side),
-        refusing(
-            lane_case(side, length),
-            refusing(log_case(runs, log), otherwise),
-        ),
-    )
-}
 
 fn cell_case(side: usize, cell: usize) -> Case
     ensures { λ r. ⌜ r ≡ cellCase side cell ⌝ }
@@ -81,7 +65,7 @@ pub(crate) fn broadcast_answer(side: usize, cell: usize, length: usize, log: usi
     ensures { λ r. ⌜ r ≡ broadcastAnswer side cell length log ⌝ }
 {
     let runs = broadcast_runs(side, cell);
-    judged(
+    checked(
         side,
         length,
         runs,
@@ -94,14 +78,14 @@ pub(crate) fn data_sum_answer(side: usize, length: usize, log: usize) -> Answer
     ensures { λ r. ⌜ r ≡ dataSumAnswer side length log ⌝ }
 {
     let runs = data_sum_runs(side);
-    judged(side, length, runs, log, accepted_by(runs))
+    checked(side, length, runs, log, accepted_by(runs))
 }
 
 pub(crate) fn prefix_sum_answer(side: usize, length: usize, log: usize) -> Answer
     ensures { λ r. ⌜ r ≡ prefixSumAnswer side length log ⌝ }
 {
     let runs = prefix_sum_runs(side);
-    judged(side, length, runs, log, accepted_by(runs))
+    checked(side, length, runs, log, accepted_by(runs))
 }
 
 pub(crate) fn shift_answer(
@@ -115,7 +99,7 @@ pub(crate) fn shift_answer(
     ensures { λ r. ⌜ r ≡ shiftAnswer side axis edge k length log ⌝ }
 {
     let runs = shift_runs(side, axis, edge, k);
-    judged(
+    checked(
         side,
         length,
         runs,

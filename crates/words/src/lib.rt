@@ -1,28 +1,23 @@
 // The operations that use words only: broadcast, data sum, prefix sum and the eight shifts, and a group's own stretch of words.
 mod judging;
-mod lanes;
-mod slides;
-mod spreads;
-mod steps;
-pub mod sums;
 
 use crate::judging::broadcast_answer;
 use crate::judging::data_sum_answer;
 use crate::judging::group_answer;
 use crate::judging::prefix_sum_answer;
 use crate::judging::shift_answer;
-use crate::slides::shift_all;
-use crate::spreads::spread_all;
-use crate::sums::sum_all;
-use crate::sums::sum_up;
 use answers::Answer;
 use lists::broadcast_runs;
 use lists::data_sum_runs;
 use lists::prefix_sum_runs;
 use logs::write_codes;
+use prefix::prefix_words;
 use shifts::Axis;
 use shifts::Edge;
 use shifts::shift_runs;
+use slides::shift_words;
+use spreads::broadcast_words;
+use spreads::data_sum_words;
 ghost use mathlib.Core.Path.{_≡_};
 ghost use lib.ListN.{length};
 ghost use Rattle.words.specs.Entries.{Broadcast, DataSum, PrefixSum, Shift, groupAnswer, groupWords};
@@ -35,7 +30,7 @@ pub fn broadcast(side: usize, cell: usize, words: &mut [u32], codes: &mut [u8]) 
     if answer.number != 0 {
         return answer;
     }
-    spread_all(words, side, cell);
+    broadcast_words(side, cell, words);
     write_codes(broadcast_runs(side, cell), codes, 0);
     answer
 }
@@ -48,7 +43,7 @@ pub fn data_sum(side: usize, words: &mut [u32], codes: &mut [u8]) -> Answer
     if answer.number != 0 {
         return answer;
     }
-    sum_all(words, side);
+    data_sum_words(side, words);
     write_codes(data_sum_runs(side), codes, 0);
     answer
 }
@@ -61,7 +56,7 @@ pub fn prefix_sum(side: usize, words: &mut [u32], codes: &mut [u8]) -> Answer
     if answer.number != 0 {
         return answer;
     }
-    sum_up(words, side);
+    prefix_words(side, words);
     write_codes(prefix_sum_runs(side), codes, 0);
     answer
 }
@@ -81,11 +76,8 @@ pub fn shift(
     if answer.number != 0 {
         return answer;
     }
-    let runs = shift_runs(side, axis, edge, k);
-    let forth = runs[1];
-    let home = runs[2];
-    shift_all(words, side, axis, edge, forth.times, home.times);
-    write_codes(runs, codes, 0);
+    shift_words(side, axis, edge, k, words);
+    write_codes(shift_runs(side, axis, edge, k), codes, 0);
     answer
 }
 

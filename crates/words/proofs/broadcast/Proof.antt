@@ -1,15 +1,9 @@
--- `words::broadcast` meets its contract: refused, all is as it was; accepted, the lane holds what the program gives.
-use Rattle.words.proofs.Answering.{broadcast-room, entry-refused}
+-- `words::broadcast` meets its contract: refused, all is as it was; accepted, the lane holds the result.
+use Rattle.words.proofs.Answering.{entry-refused}
 use Rattle.words.proofs.Entering.{broadcast-done}
 use borrow.Author.Needs.{needs}
 use Rattle.words.proofs.broadcast.Statement.{statement}
 use Rattle.words.proofs.broadcast.Tie as tie
-use Rattle.words.proofs.broadcast.Reads as reads
-use Rattle.words.proofs.broadcast.Lts as lts
-use Rattle.lists.proofs.broadcast_runs.Reads as broadcast-runs-reads
-use Rattle.logs.proofs.write_codes.Reads as write-codes-reads
-use Rattle.words.proofs.judging.broadcast_answer.Reads as broadcast-answer-reads
-use Rattle.words.proofs.spreads.spread_all.Reads as spread-all-reads
 
 broadcast-answer-requires : tie.Need-broadcast-answer-requires
 broadcast-answer-requires c κs = search needs
@@ -17,10 +11,8 @@ broadcast-answer-requires c κs = search needs
 returns : tie.Need-returns
 returns c = entry-refused _ _ _ _ _ _ (c .before .before .broadcast-answer .ensures) (c .if1 .taken)
 
-spread-all-requires : tie.Need-spread-all-requires
-spread-all-requires c κs =
-    let k = broadcast-room (c .before .before .before .before .before .before .args .side) (c .before .before .before .before .before .before .args .cell) _ _ _ (c .before .before .before .broadcast-answer .ensures) (c .before .if1 .left) in
-    (k .known .board, k .inside)
+broadcast-words-requires : tie.Need-broadcast-words-requires
+broadcast-words-requires c κs = search needs
 
 broadcast-runs-requires : tie.Need-broadcast-runs-requires
 broadcast-runs-requires c κs = search needs
@@ -35,7 +27,7 @@ same-length-2 : tie.Need-same-length-2
 same-length-2 c = search needs
 
 returns-2 : tie.Need-returns-2
-returns-2 c = broadcast-done (c .before .before .before .before .before .before .before .before .before .before .before .before .before .before .args .side) (c .before .before .before .before .before .before .before .before .before .before .before .before .before .before .args .words .now) (c .before .before .before .before .before .before .before .before .before .before .before .before .before .before .args .codes .now) _ _ _ (c .before .before .before .before .before .before .before .spread-all .kept .0) (c .before .before .before .before .before .before .before .before .before .before .before .before .before .before .args .cell) (c .before .before .before .before .before .before .before .before .before .before .before .broadcast-answer .ensures) (c .before .before .before .before .before .before .before .before .before .if1 .left) (c .before .before .before .before .before .before .before .spread-all .ensures) (rw (c .before .before .before .before .broadcast-runs .ensures) at (c .before .before .write-codes .ensures))
+returns-2 c = broadcast-done (c .before .before .before .before .before .before .before .before .before .before .before .before .before .before .args .side) (c .before .before .before .before .before .before .before .before .before .before .before .before .before .before .args .words .now) (c .before .before .before .before .before .before .before .before .before .before .before .before .before .before .args .codes .now) _ _ _ (c .before .before .before .before .before .before .before .before .before .before .before .before .before .before .args .cell) (c .before .before .before .before .before .before .before .before .before .before .before .broadcast-answer .ensures) (c .before .before .before .before .before .before .before .before .before .if1 .left) (c .before .before .before .before .before .before .before .broadcast-words .ensures) (rw (c .before .before .before .before .broadcast-runs .ensures) at (c .before .before .write-codes .ensures))
 
 pub broadcast-spec : {M : Type 1} → statement M
 broadcast-spec =
@@ -43,7 +35,7 @@ broadcast-spec =
     (tie.spec
     broadcast-answer-requires
     returns
-    spread-all-requires
+    broadcast-words-requires
     broadcast-runs-requires
     write-codes-requires
     same-length

@@ -7,14 +7,11 @@ use mathlib.Core.Path.{_∙_, sym, ap}
 use native.Mathlib.Omega.{arith}
 use Rattle.array.specs.Cells.{groups}
 use Rattle.words.proofs.Answering.{group-room, left-old, left-new}
-use Rattle.words.proofs.Composing.{sizes}
+use Rattle.lanes.proofs.Held.{sizes}
 use Rattle.words.proofs.Entering.{group-inside}
 use borrow.Author.Needs.{needs}
 use Rattle.words.proofs.group_words.Statement.{statement}
 use Rattle.words.proofs.group_words.Tie as tie
-use Rattle.words.proofs.group_words.Reads as reads
-use Rattle.words.proofs.group_words.Lts as lts
-use Rattle.words.proofs.judging.group_answer.Reads as group-answer-reads
 
 group-answer-requires : tie.Need-group-answer-requires
 group-answer-requires c κs = search needs

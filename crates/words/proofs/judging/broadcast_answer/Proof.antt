@@ -3,13 +3,6 @@ use Rattle.words.proofs.Answering.{broadcast-counts}
 use borrow.Author.Needs.{needs}
 use Rattle.words.proofs.judging.broadcast_answer.Statement.{statement}
 use Rattle.words.proofs.judging.broadcast_answer.Tie as tie
-use Rattle.words.proofs.judging.broadcast_answer.Reads as reads
-use Rattle.words.proofs.judging.broadcast_answer.Lts as lts
-use Rattle.answers.proofs.refusing.Reads as refusing-reads
-use Rattle.lists.proofs.broadcast_runs.Reads as broadcast-runs-reads
-use Rattle.answers.proofs.accepted_by.Reads as accepted-by-reads
-use Rattle.words.proofs.judging.cell_case.Reads as cell-case-reads
-use Rattle.words.proofs.judging.judged.Reads as judged-reads
 
 broadcast-runs-requires : tie.Need-broadcast-runs-requires
 broadcast-runs-requires c κs = search needs
@@ -23,11 +16,11 @@ accepted-by-requires c κs = search needs
 refusing-requires : tie.Need-refusing-requires
 refusing-requires c κs = search needs
 
-judged-requires : tie.Need-judged-requires
-judged-requires c κs = search needs
+checked-requires : tie.Need-checked-requires
+checked-requires c κs = search needs
 
 returns : tie.Need-returns
-returns c = broadcast-counts (c .before .before .before .before .before .args .side) (c .before .before .before .before .before .args .cell) (c .before .before .before .before .before .args .length) (c .before .before .before .before .before .args .log) _ (rw (c .before .refusing .ensures, c .before .before .before .cell-case .ensures, c .before .before .accepted-by .ensures, c .before .before .before .before .broadcast-runs .ensures) at (c .judged .ensures))
+returns c = broadcast-counts (c .before .before .before .before .before .args .side) (c .before .before .before .before .before .args .cell) (c .before .before .before .before .before .args .length) (c .before .before .before .before .before .args .log) _ (rw (c .before .refusing .ensures, c .before .before .before .cell-case .ensures, c .before .before .accepted-by .ensures, c .before .before .before .before .broadcast-runs .ensures) at (c .checked .ensures))
 
 pub broadcast-answer-spec : {M : Type 1} → statement M
 broadcast-answer-spec =
@@ -37,5 +30,5 @@ broadcast-answer-spec =
     cell-case-requires
     accepted-by-requires
     refusing-requires
-    judged-requires
+    checked-requires
     returns)

@@ -2,9 +2,6 @@
 use borrow.Author.Needs.{needs}
 use Rattle.words.proofs.judging.cell_case.Statement.{statement}
 use Rattle.words.proofs.judging.cell_case.Tie as tie
-use Rattle.words.proofs.judging.cell_case.Reads as reads
-use Rattle.words.proofs.judging.cell_case.Lts as lts
-use Rattle.array.proofs.cells.is_cell.Reads as is-cell-reads
 
 is-cell-requires : tie.Need-is-cell-requires
 is-cell-requires c κs = search needs

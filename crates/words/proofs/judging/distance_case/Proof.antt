@@ -4,10 +4,6 @@ use mir.ValLaws.{toZ-ofZ}
 use borrow.Author.Needs.{needs}
 use Rattle.words.proofs.judging.distance_case.Statement.{statement}
 use Rattle.words.proofs.judging.distance_case.Tie as tie
-use Rattle.words.proofs.judging.distance_case.Reads as reads
-use Rattle.words.proofs.judging.distance_case.Lts as lts
-use Rattle.shifts.proofs.distance_of.Reads as distance-of-reads
-use Rattle.shifts.proofs.is_within.Reads as is-within-reads
 
 distance-of-requires : tie.Need-distance-of-requires
 distance-of-requires c κs = search needs

@@ -7,13 +7,6 @@ use Rattle.words.proofs.Answering.{three-cases}
 use borrow.Author.Needs.{needs}
 use Rattle.words.proofs.judging.group_answer.Statement.{statement}
 use Rattle.words.proofs.judging.group_answer.Tie as tie
-use Rattle.words.proofs.judging.group_answer.Reads as reads
-use Rattle.words.proofs.judging.group_answer.Lts as lts
-use Rattle.answers.proofs.accepted.Reads as accepted-reads
-use Rattle.answers.proofs.lane_case.Reads as lane-case-reads
-use Rattle.answers.proofs.refusing.Reads as refusing-reads
-use Rattle.answers.proofs.side_case.Reads as side-case-reads
-use Rattle.words.proofs.judging.group_case.Reads as group-case-reads
 
 side-case-requires : tie.Need-side-case-requires
 side-case-requires c κs = search needs

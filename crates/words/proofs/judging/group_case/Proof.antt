@@ -2,9 +2,6 @@
 use borrow.Author.Needs.{needs}
 use Rattle.words.proofs.judging.group_case.Statement.{statement}
 use Rattle.words.proofs.judging.group_case.Tie as tie
-use Rattle.words.proofs.judging.group_case.Reads as reads
-use Rattle.words.proofs.judging.group_case.Lts as lts
-use Rattle.words.proofs.judging.is_group.Reads as is-group-reads
 
 is-group-requires : tie.Need-is-group-requires
 is-group-requires c κs = search needs

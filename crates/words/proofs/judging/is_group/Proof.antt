@@ -7,8 +7,6 @@ use Rattle.laws.proofs.Numbers.{square-grows}
 use borrow.Author.Needs.{needs}
 use Rattle.words.proofs.judging.is_group.Statement.{statement}
 use Rattle.words.proofs.judging.is_group.Tie as tie
-use Rattle.words.proofs.judging.is_group.Reads as reads
-use Rattle.words.proofs.judging.is_group.Lts as lts
 
 returns : tie.Need-returns
 returns c = sym (lt-ltb (c .before .args .group) (groups (c .before .args .side)) (omega (arith, square-grows {a = 4294967296} (c .if1 .taken), c .before .fits .group .fits)))

@@ -1,0 +1,10 @@
+pub mod Agreeing
+pub mod Coordinates
+pub mod Held
+pub mod Laying
+pub mod Lines
+pub mod Renewing
+pub mod Spots
+pub mod Stepping
+pub mod Sweeping
+pub mod Views

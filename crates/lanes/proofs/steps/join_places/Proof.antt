@@ -1,0 +1,90 @@
+-- `lanes::steps::join_places` meets its contract: place by place, by `Laid`.
+use borrow.Author.Needs.{needs}
+use Prim.Native.Nat.{_≤_, _-_}
+use native.Mathlib.Omega.{arith}
+use mathlib.Core.Path.{_≡_, refl}
+use Rattle.lanes.specs.Inside.{Laid, joinFrom}
+use Rattle.lanes.proofs.Laying.{laid-start, laid-next, joined-place}
+use Rattle.lanes.proofs.steps.join_places.Statement.{statement}
+use Rattle.lanes.proofs.steps.join_places.Tie as tie
+
+abbrev Inv-loop : tie.InvT-loop
+Inv-loop part₀ joining to from apart count k₀ part k = (k ≤ count) × Laid to apart k (joinFrom joining to from apart part₀) part₀ part
+
+abbrev μ-loop : tie.MeasureT-loop
+μ-loop part₀ joining to from apart count k₀ part k = count - k
+
+loop-holds : tie.Need-loop-holds Inv-loop μ-loop
+loop-holds c = (omega arith, laid-start)
+
+mul-i : tie.Need-mul-i Inv-loop μ-loop
+mul-i c = omega (arith, c .before .before .before .pre .0 .inside _ (c .loop-test .taken), c .before .before .before .pre .0 .few)
+
+add-i : tie.Need-add-i Inv-loop μ-loop
+add-i c = omega (arith, c .before .before .before .pre .0 .inside _ (c .loop-test .taken), c .before .before .before .pre .0 .few)
+
+mul-j : tie.Need-mul-j Inv-loop μ-loop
+mul-j c = omega (arith, c .before .before .before .pre .1 .0 .inside _ (c .loop-test .taken), c .before .before .before .pre .1 .0 .few)
+
+add-j : tie.Need-add-j Inv-loop μ-loop
+add-j c = omega (arith, c .before .before .before .pre .1 .0 .inside _ (c .loop-test .taken), c .before .before .before .pre .1 .0 .few)
+
+mul-joined : tie.Need-mul-joined Inv-loop μ-loop
+mul-joined c = omega (arith, c .before .before .before .pre .0 .inside _ (c .loop-test .taken), c .before .before .before .pre .0 .few, c .before .loop .inv .1 .size)
+
+slice-read-joined : tie.Need-slice-read-joined Inv-loop μ-loop
+slice-read-joined c = omega (arith, c .before .before .before .before .pre .0 .inside _ (c .before .loop-test .taken), c .before .before .loop .inv .1 .size)
+
+mul-joined-2 : tie.Need-mul-joined-2 Inv-loop μ-loop
+mul-joined-2 c = omega (arith, c .before .before .before .before .pre .1 .0 .inside _ (c .before .loop-test .taken), c .before .before .before .before .pre .1 .0 .few, c .before .before .loop .inv .1 .size)
+
+slice-read-joined-2 : tie.Need-slice-read-joined-2 Inv-loop μ-loop
+slice-read-joined-2 c = omega (arith, c .before .before .before .before .before .pre .1 .0 .inside _ (c .before .before .loop-test .taken), c .before .before .before .loop .inv .1 .size)
+
+joined-requires : tie.Need-joined-requires Inv-loop μ-loop
+joined-requires c κs = search needs
+
+mul-part : tie.Need-mul-part Inv-loop μ-loop
+mul-part c = omega (arith, c .before .before .before .before .before .before .pre .0 .inside _ (c .before .before .before .loop-test .taken), c .before .before .before .before .before .before .pre .0 .few, c .before .before .before .before .loop .inv .1 .size)
+
+slice-write-part : tie.Need-slice-write-part Inv-loop μ-loop
+slice-write-part c = omega (arith, c .before .before .before .before .before .before .pre .0 .inside _ (c .before .before .before .loop-test .taken), c .before .before .before .before .loop .inv .1 .size)
+
+add-k : tie.Need-add-k Inv-loop μ-loop
+add-k c = omega arith
+
+loop-less : tie.Need-loop-less Inv-loop μ-loop
+loop-less c = omega arith
+
+loop-again : tie.Need-loop-again Inv-loop μ-loop
+loop-again c = (omega arith, laid-next _ (c .before .before .before .before .before .before .pre .0) refl (c .before .before .before .loop-test .taken) (joined-place (c .before .before .before .before .before .before .args .joining) _ _ (c .before .before .before .before .before .before .pre .0) (c .before .before .before .before .before .before .pre .1 .1) (c .before .before .before .loop-test .taken) (c .before .before .before .before .loop .inv .1) (c .joined .ensures)) (c .before .before .before .before .loop .inv .1))
+
+same-length : tie.Need-same-length Inv-loop μ-loop
+same-length c = c .before .loop .inv .1 .size
+
+returns : tie.Need-returns Inv-loop μ-loop
+returns c = let e : c .before .loop .k ≡ c .before .before .before .args .count = omega arith in rw e at (c .before .loop .inv .1)
+
+pub join-places-spec : {M : Type 1} → statement M
+join-places-spec =
+    tie.close
+    (tie.spec
+    Inv-loop
+    μ-loop
+    loop-holds
+    mul-i
+    add-i
+    mul-j
+    add-j
+    mul-joined
+    slice-read-joined
+    mul-joined-2
+    slice-read-joined-2
+    joined-requires
+    mul-part
+    slice-write-part
+    add-k
+    loop-less
+    loop-again
+    same-length
+    returns)

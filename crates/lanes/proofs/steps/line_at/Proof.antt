@@ -1,0 +1,52 @@
+-- `lanes::steps::line_at` meets its contract: by the position behind.
+use native.Mathlib.Omega.{arith}
+use mathlib.Core.Path.{sym, _∙_}
+use Rattle.lanes.proofs.Spots.{behind-is, a-group, along-few, line-found, line-missed, line-off}
+use borrow.Author.Needs.{needs}
+use Rattle.lanes.proofs.steps.line_at.Statement.{statement}
+use Rattle.lanes.proofs.steps.line_at.Tie as tie
+
+returns : tie.Need-returns
+returns c = line-off (c .before .args .side) (c .before .args .way) (c .before .args .p) (c .if1 .taken)
+
+along-requires : tie.Need-along-requires
+along-requires c κs = search needs
+
+across-requires : tie.Need-across-requires
+across-requires c κs = search needs
+
+behind-requires : tie.Need-behind-requires
+behind-requires c κs = search needs
+
+enum-known-from : tie.Need-enum-known-from
+enum-known-from c = search needs
+
+mul-t10 : tie.Need-mul-t10
+mul-t10 c = omega (arith, along-few (a-group (c .before .before .before .before .before .before .before .pre .0) (c .before .before .before .before .before .before .before .pre .1)) (c .before .before .before .before .before .before .before .args .way) (c .before .before .before .before .before .before .before .args .p) _ (c .before .before .before .before .before .before .if1 .left) (c .before .before .before .before .before .along .ensures))
+
+mul-t11 : tie.Need-mul-t11
+mul-t11 c = omega (arith, along-few (a-group (c .before .before .before .before .before .before .before .pre .0) (c .before .before .before .before .before .before .before .pre .1)) (c .before .before .before .before .before .before .before .args .way) (c .before .from .given .0 .0) _ (behind-is _ (c .before .before .before .before .before .before .before .args .way) (c .before .before .before .before .before .before .before .args .p) (c .before .from .given .0 .0) (c .before .before .before .before .before .before .if1 .left) (sym (c .before .before .before .behind .ensures) ∙ c .before .from .given .1) .inside) (c .before .before .before .before .before .along .ensures))
+
+enum-told : tie.Need-enum-told
+enum-told c = search needs
+
+returns-2 : tie.Need-returns-2
+returns-2 c = line-found (c .before .before .before .before .before .before .before .args .side) (c .before .before .before .before .before .before .before .args .way) (c .before .before .before .before .before .before .before .args .p) _ _ _ _ (c .before .before .before .before .before .before .if1 .left) (c .before .before .before .behind .ensures) (c .before .from .given .1) (c .before .before .before .before .before .along .ensures) (c .before .before .before .before .across .ensures)
+
+returns-3 : tie.Need-returns-3
+returns-3 c = line-missed (c .before .before .before .before .before .before .args .side) (c .before .before .before .before .before .before .args .way) (c .before .before .before .before .before .before .args .p) _ (c .before .before .before .before .before .if1 .left) (c .before .before .behind .ensures) (c .enum-told .given .1)
+
+pub line-at-spec : {M : Type 1} → statement M
+line-at-spec =
+    tie.close
+    (tie.spec
+    returns
+    along-requires
+    across-requires
+    behind-requires
+    enum-known-from
+    mul-t10
+    mul-t11
+    enum-told
+    returns-2
+    returns-3)

@@ -1,0 +1,4 @@
+pub mod Inside
+pub mod Machine
+pub mod Runs
+pub mod Stages

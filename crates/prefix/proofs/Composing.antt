@@ -1,0 +1,77 @@
+-- How the parts of the code make up the nine steps.
+use Prim.Native.Nat.{ℕ, _-_, _^_, _<_}
+use mathlib.Core.Path.{_≡_, _∙_}
+use mathlib.Core.Bool.{true}
+use mathlib.Core.List.{List}
+use native.Mathlib.Omega.{arith}
+use lib.ListN.{length, getD}
+use Rattle.array.specs.declared.moves.Way.{Way}
+use Rattle.array.specs.declared.moves.Way.the-variants.{Right, Left, Up, Down}
+use Rattle.light.specs.Lane.{isBoard, swappedLane}
+use Rattle.lanes.specs.declared.Joining.the-variants.{Add, Copy}
+use Rattle.lanes.specs.declared.Combining.the-variants.{Take, Plus, Minus}
+use Rattle.lanes.specs.Machine.{State, load}
+use Rattle.lanes.specs.Runs.{ranWords, combinedWords}
+use Rattle.lanes.specs.Inside.{Board, Lane, Moves, swapped}
+use Rattle.lanes.proofs.Held.{board-known, lane-load, lane-words, ran-lane, swapped-lane, combined-lane}
+use Rattle.prefix.specs.Programs.{prefixed}
+use Rattle.prefix.specs.Results.{prefixSumLane}
+use Rattle.prefix.specs.Inside.{summed, copied, RowsAndColumns, GroupSums, Modified, Finished, PrefixLanes}
+use Rattle.prefix.proofs.Adding.{parts-are, prefixSum-lanes, prefixSum-all}
+
+-- runs over whole lines
+sums : (s : ℕ) (w : Way) {l l′ : List ℕ} {σ : State ℕ} → l′ ≡ ranWords s w Add 0 (s - 1) l → Lane s l σ → Lane s l′ (summed s w σ)
+sums s w e h = ran-lane s w Add 0 (s - 1) (omega arith) (omega arith) e h
+
+copies : (s : ℕ) (w : Way) {l l′ : List ℕ} {σ : State ℕ} → l′ ≡ ranWords s w Copy (s - 1) (s - 1) l → Lane s l σ → Lane s l′ (copied s w σ)
+copies s w e h = ran-lane s w Copy (s - 1) (s - 1) (omega arith) (omega arith) e h
+
+pub rows-columns : (s : ℕ) {r r′ c c₁ c′ : List ℕ} → r′ ≡ ranWords s Right Add 0 (s - 1) r → c₁ ≡ combinedWords Take c r′ → c′ ≡ ranWords s Down Add 0 (s - 1) c₁
+    → RowsAndColumns s r c r′ c′
+rows-columns s x e y = record { rows = λ R hr. sums s Right x hr; columns = λ R C hr hc. sums s Down y (combined-lane s Take e hc (sums s Right x hr)) }
+
+pub group-sums : (s : ℕ) {c a a₁ a′ y y₁ y′ z z₁ z′ : List ℕ} → a₁ ≡ combinedWords Take a c → a′ ≡ swappedLane s a₁ → y₁ ≡ combinedWords Take y a′
+    → y′ ≡ ranWords s Right Add 0 (s - 1) y₁ → z₁ ≡ combinedWords Take z y′ → z′ ≡ ranWords s Down Add 0 (s - 1) z₁ → GroupSums s c a y z a′ y′ z′
+group-sums s {c} {a} {a₁} {a′} {y} {y₁} {y′} ta sw ty ry tz rz = record { came = ca; rows = cy; columns = λ C A Y Z hc ha hy hz. sums s Down rz (combined-lane s Take tz hz (cy C A Y hc ha hy)) }
+  where
+    ca : (C A : State ℕ) → Lane s c C → Lane s a A → Lane s a′ (swapped C)
+    ca C A hc ha = swapped-lane s sw (combined-lane s Take ta ha hc)
+
+    cy : (C A Y : State ℕ) → Lane s c C → Lane s a A → Lane s y Y → Lane s y′ (summed s Right (swapped C))
+    cy C A Y hc ha hy = sums s Right ry (combined-lane s Take ty hy (ca C A hc ha))
+
+pub modify-moves : (s : ℕ) {a y z z₁ z₂ z₃ z₄ z₅ : List ℕ} → z₁ ≡ combinedWords Minus z y → z₂ ≡ ranWords s Left Copy (s - 1) (s - 1) z₁
+    → z₃ ≡ combinedWords Plus z₂ y → z₄ ≡ combinedWords Minus z₃ a → z₅ ≡ swappedLane s z₄ → Modified s a y z z₅
+modify-moves s e₁ x e₃ e₄ e₅ = record {
+  so = λ A Y Z ha hy hz. swapped-lane s e₅ (combined-lane s Minus e₄ (combined-lane s Plus e₃ (copies s Left x (combined-lane s Minus e₁ hz hy)) hy) ha);
+}
+
+pub finish-moves : (s : ℕ) {r c z z₁ z₂ z₃ z₄ r′ : List ℕ} → z₁ ≡ ranWords s Up Copy (s - 1) (s - 1) z → z₂ ≡ combinedWords Plus z₁ c
+    → z₃ ≡ combinedWords Minus z₂ r → z₄ ≡ ranWords s Left Copy (s - 1) (s - 1) z₃ → r′ ≡ combinedWords Plus r z₄ → Finished s r c z r′
+finish-moves s x e₂ e₃ y e₄ = record {
+  so = λ R C M hr hc hm. combined-lane s Plus e₄ hr (copies s Left y (combined-lane s Minus e₃ (combined-lane s Plus e₂ (copies s Up x hm) hc) hr));
+}
+
+pub prefix-lanes-moves : (s : ℕ) {r₀ r₁ r₂ c₀ c₁ a₀ a₁ y₀ y₁ z₀ z₁ z₂ : List ℕ} → RowsAndColumns s r₀ c₀ r₁ c₁ → GroupSums s c₁ a₀ y₀ z₀ a₁ y₁ z₁
+    → Modified s a₁ y₁ z₁ z₂ → Finished s r₁ c₁ z₂ r₂ → PrefixLanes s r₀ c₀ a₀ y₀ z₀ r₂
+prefix-lanes-moves s x y z w = record {
+  so = λ R C A Y Z hr hc ha hy hz.
+      let k = x .columns R C hr hc in
+      rw (prefixSum-lanes s R, ← parts-are s R)
+      (w .so _ _ _ (x .rows R hr) k (z .so _ _ _ (y .came _ A k ha) (y .rows _ A Y k ha hy) (y .columns _ A Y Z k ha hy hz)));
+}
+
+-- scratch lanes as long as the words
+pub prefix-moves : (s : ℕ) {r c a y z r′ : List ℕ} → length c ≡ length r → length a ≡ length r → length y ≡ length r → length z ≡ length r
+    → PrefixLanes s r c a y z r′ → Moves s (prefixed s) r r′
+prefix-moves s {r} ec ea ey ez x = record {
+  so = λ R h. x .so R _ _ _ _ h (some-lane ec (h .board)) (some-lane ea (h .board)) (some-lane ey (h .board)) (some-lane ez (h .board));
+}
+  where
+    some-lane : {l : List ℕ} → length l ≡ length r → Board s (length r) → Lane s l (load s l)
+    some-lane e b = lane-load (record { least = b .least; most = b .most; whole = e ∙ b .whole })
+
+pub prefix-done : (s : ℕ) (l l′ : List ℕ) → isBoard s (length l) ≡ true → ((i : ℕ) → getD l i 0 < 2 ^ 32) → Moves s (prefixed s) l l′ → l′ ≡ prefixSumLane s l
+prefix-done s l l′ b small x =
+    let k = board-known s (length l) b in
+    rw b (lane-words (x .so _ (lane-load k)) ∙ prefixSum-all s l (k .least) small)

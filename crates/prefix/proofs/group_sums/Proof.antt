@@ -1,0 +1,54 @@
+-- `prefix::group_sums` meets its contract: step 3 and the sums of step 4, one after the other.
+use Rattle.prefix.proofs.Composing.{group-sums}
+use borrow.Author.Needs.{needs}
+use Rattle.prefix.proofs.group_sums.Statement.{statement}
+use Rattle.prefix.proofs.group_sums.Tie as tie
+
+sub-last : tie.Need-sub-last
+sub-last c = search needs
+
+combine-requires : tie.Need-combine-requires
+combine-requires c κs = search needs
+
+swap-words-requires : tie.Need-swap-words-requires
+swap-words-requires c κs = search needs
+
+combine-requires-2 : tie.Need-combine-requires-2
+combine-requires-2 c κs = search needs
+
+run-requires : tie.Need-run-requires
+run-requires c κs = search needs
+
+combine-requires-3 : tie.Need-combine-requires-3
+combine-requires-3 c κs = search needs
+
+run-requires-2 : tie.Need-run-requires-2
+run-requires-2 c κs = search needs
+
+same-length : tie.Need-same-length
+same-length c = search needs
+
+same-length-2 : tie.Need-same-length-2
+same-length-2 c = search needs
+
+same-length-3 : tie.Need-same-length-3
+same-length-3 c = search needs
+
+returns : tie.Need-returns
+returns c = group-sums _ (c .before .before .before .before .before .before .before .before .before .before .before .before .before .before .before .before .before .before .before .before .before .before .before .before .combine .ensures) (c .before .before .before .before .before .before .before .before .before .before .before .before .before .before .before .before .before .before .before .before .swap-words .ensures) (c .before .before .before .before .before .before .before .before .before .before .before .before .before .before .before .combine2 .ensures) (c .before .before .before .before .before .before .before .before .before .before .before .run .ensures) (c .before .before .before .before .before .before .combine3 .ensures) (c .before .before .run2 .ensures)
+
+pub group-sums-spec : {M : Type 1} → statement M
+group-sums-spec =
+    tie.close
+    (tie.spec
+    sub-last
+    combine-requires
+    swap-words-requires
+    combine-requires-2
+    run-requires
+    combine-requires-3
+    run-requires-2
+    same-length
+    same-length-2
+    same-length-3
+    returns)

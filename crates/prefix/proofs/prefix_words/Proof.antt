@@ -1,0 +1,27 @@
+-- `prefix::prefix_words` meets its contract: on a board the lane holds the prefix sums; else it is left.
+use mathlib.Core.Path.{sym, _∙_}
+use borrow.Author.Tests.{not-true, not-false}
+use Rattle.lanes.proofs.Held.{board-known}
+use Rattle.prefix.proofs.Composing.{prefix-done}
+use borrow.Author.Needs.{needs}
+use Rattle.prefix.proofs.prefix_words.Statement.{statement}
+use Rattle.prefix.proofs.prefix_words.Tie as tie
+
+is-board-requires : tie.Need-is-board-requires
+is-board-requires c κs = search needs
+
+returns : tie.Need-returns
+returns c = rw (sym (c .before .is-board .ensures) ∙ not-true _ (c .if1 .taken))
+
+sum-up-requires : tie.Need-sum-up-requires
+sum-up-requires c κs = board-known _ _ (sym (c .before .before .is-board .ensures) ∙ not-false _ (c .before .if1 .left))
+
+same-length : tie.Need-same-length
+same-length c = search needs
+
+returns-2 : tie.Need-returns-2
+returns-2 c = prefix-done _ _ _ (sym (c .before .before .before .before .before .is-board .ensures) ∙ not-false _ (c .before .before .before .before .if1 .left)) (λ i. c .before .before .before .before .before .before .slice-known .given i .fits) (c .before .before .sum-up .ensures)
+
+pub prefix-words-spec : {M : Type 1} → statement M
+prefix-words-spec =
+    tie.close (tie.spec is-board-requires returns sum-up-requires same-length returns-2)

@@ -1,0 +1,173 @@
+// The eight shifts, on a lane of words.
+use array::moves::Way;
+use array::moves::opposite;
+use lanes::Combining;
+use lanes::Joining;
+use lanes::combine;
+use lanes::run;
+use light::is_board;
+use light::swap_words;
+use shifts::Axis;
+use shifts::Edge;
+use shifts::distance_of;
+use shifts::is_within;
+use shifts::shift_runs;
+ghost use mathlib.Core.Path.{_≡_};
+ghost use mathlib.Core.Bool.{cond};
+ghost use Prim.Native.Nat.{_≤_, _<_};
+ghost use lib.ListN.{length};
+ghost use Rattle.lanes.specs.Stages.{position as positionOf};
+ghost use Rattle.lanes.specs.Inside.{Board, Moves, swapped};
+ghost use Rattle.slides.specs.Results.{shiftLane};
+ghost use Rattle.slides.specs.Inside.{nextSpot, takes as takesOf, chosen, ShiftLanes, meshShift, shiftOn};
+
+// Whether a cell at position p takes the word that came so many moves home, and not the one that came forth.
+fn takes(edge: Edge, forth: usize, home: usize, p: usize) -> bool
+    ensures { λ r. ⌜ r ≡ takesOf edge forth home p ⌝ }
+{
+    if home == 0 {
+        return false;
+    }
+    match edge {
+        Edge::ZeroFill => true,
+        Edge::Circular => p < forth,
+    }
+}
+
+// A row and a column of a group.
+pub struct Spot {
+    pub row: usize,
+    pub column: usize,
+}
+
+fn position(way: Way, spot: Spot) -> usize
+    ensures { λ r. ⌜ r ≡ positionOf way (spot .row) (spot .column) ⌝ }
+{
+    match way {
+        Way::Right => spot.column,
+        Way::Left => spot.column,
+        Way::Up => spot.row,
+        Way::Down => spot.row,
+    }
+}
+
+// The spot of the next cell; behind the last of a group comes the first of the next group.
+fn next_spot(side: usize, spot: Spot) -> Spot
+    requires { ⌜ (spot .row < side) × (spot .column < side) ⌝ }
+    ensures { λ r. ⌜ r ≡ nextSpot side spot ⌝ }
+{
+    if spot.column + 1 < side {
+        return Spot {
+            row: spot.row,
+            column: spot.column + 1,
+        };
+    }
+    if spot.row + 1 < side {
+        return Spot {
+            row: spot.row + 1,
+            column: 0,
+        };
+    }
+    Spot { row: 0, column: 0 }
+}
+
+fn choose(
+    words: &mut [u32],
+    back: &[u32],
+    side: usize,
+    way: Way,
+    edge: Edge,
+    forth: usize,
+    home: usize,
+)
+    requires { ⌜ 1 ≤ side ⌝ }
+    requires { ⌜ length (now back) ≡ length (now words) ⌝ }
+    ensures { λ _. ⌜ now (words .exit) ≡ chosen side way edge forth home (now (words .entry)) (now (back .entry)) ⌝ }
+{
+    let mut spot = Spot { row: 0, column: 0 };
+    let mut i = 0;
+    while i < words.len() {
+        let p = position(way, spot);
+        let v = pick(takes(edge, forth, home, p), back[i], words[i]);
+        words[i] = v;
+        spot = next_spot(side, spot);
+        i += 1;
+    }
+}
+
+fn pick(first: bool, x: u32, y: u32) -> u32
+    ensures { λ r. ⌜ r ≡ cond first x y ⌝ }
+{
+    if first { x } else { y }
+}
+
+// A shift inside the groups: what goes forth in words, what goes home in back.
+fn shift_lanes(
+    words: &mut [u32],
+    back: &mut [u32],
+    side: usize,
+    way: Way,
+    edge: Edge,
+    forth: usize,
+    home: usize,
+)
+    requires { ⌜ 1 ≤ side ⌝ }
+    requires { ⌜ length (now back) ≡ length (now words) ⌝ }
+    requires { ⌜ (forth ≤ side) × (home ≤ side) ⌝ }
+    ensures { λ _. ⌜ ShiftLanes side (meshShift side way edge forth home) (now (words .entry)) (now (back .entry)) (now (words .exit)) ⌝ }
+{
+    combine(Combining::Take, back, &words[..]);
+    run(side, way, Joining::Fill, 0, forth, words);
+    run(side, opposite(way), Joining::Fill, 0, home, back);
+    choose(words, &back[..], side, way, edge, forth, home);
+}
+
+fn shift_mesh(words: &mut [u32], side: usize, way: Way, edge: Edge, forth: usize, home: usize)
+    requires { ⌜ Board side (length (now words)) ⌝ }
+    requires { ⌜ (forth ≤ side) × (home ≤ side) ⌝ }
+    ensures { λ _. ⌜ Moves side (meshShift side way edge forth home) (now (words .entry)) (now (words .exit)) ⌝ }
+{
+    let mut back = [0u32; 4096];
+    let n = words.len();
+    shift_lanes(words, &mut back[..n], side, way, edge, forth, home);
+}
+
+// A shift of groups: a swap, the same inside the groups, a swap.
+fn shift_groups(words: &mut [u32], side: usize, way: Way, edge: Edge, forth: usize, home: usize)
+    requires { ⌜ Board side (length (now words)) ⌝ }
+    requires { ⌜ (forth ≤ side) × (home ≤ side) ⌝ }
+    ensures { λ _. ⌜ Moves side (λ σ. swapped (meshShift side way edge forth home (swapped σ))) (now (words .entry)) (now (words .exit)) ⌝ }
+{
+    swap_words(side, words);
+    shift_mesh(words, side, way, edge, forth, home);
+    swap_words(side, words);
+}
+
+fn shift_all(words: &mut [u32], side: usize, axis: Axis, edge: Edge, forth: usize, home: usize)
+    requires { ⌜ Board side (length (now words)) ⌝ }
+    requires { ⌜ (forth ≤ side) × (home ≤ side) ⌝ }
+    ensures { λ _. ⌜ Moves side (shiftOn side axis edge forth home) (now (words .entry)) (now (words .exit)) ⌝ }
+{
+    match axis {
+        Axis::MeshRow => shift_mesh(words, side, Way::Right, edge, forth, home),
+        Axis::MeshColumn => shift_mesh(words, side, Way::Down, edge, forth, home),
+        Axis::GroupRow => shift_groups(words, side, Way::Right, edge, forth, home),
+        Axis::GroupColumn => shift_groups(words, side, Way::Down, edge, forth, home),
+    }
+}
+
+// Every word moves by k along its row or column, of the mesh or of the groups.
+pub fn shift_words(side: usize, axis: Axis, edge: Edge, k: i32, words: &mut [u32])
+    ensures { λ _. ⌜ now (words .exit) ≡ shiftLane side axis edge k (now (words .entry)) ⌝ }
+{
+    if !is_board(side, words.len()) {
+        return;
+    }
+    if !is_within(side, distance_of(k)) {
+        return;
+    }
+    let runs = shift_runs(side, axis, edge, k);
+    let forth = runs[1];
+    let home = runs[2];
+    shift_all(words, side, axis, edge, forth.times, home.times);
+}

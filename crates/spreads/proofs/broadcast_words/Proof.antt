@@ -1,0 +1,41 @@
+-- `spreads::broadcast_words` meets its contract: on a board with such a cell the lane holds its word; else it is left.
+use mathlib.Core.Path.{sym, _∙_}
+use borrow.Author.Tests.{not-true, not-false}
+use Rattle.array.proofs.Board.{cell-known}
+use Rattle.spreads.proofs.Composing.{broadcast-done}
+use borrow.Author.Needs.{needs}
+use Rattle.spreads.proofs.broadcast_words.Statement.{statement}
+use Rattle.spreads.proofs.broadcast_words.Tie as tie
+
+is-board-requires : tie.Need-is-board-requires
+is-board-requires c κs = search needs
+
+returns : tie.Need-returns
+returns c = rw (sym (c .before .is-board .ensures) ∙ not-true _ (c .if1 .taken))
+
+is-cell-requires : tie.Need-is-cell-requires
+is-cell-requires c κs = search needs
+
+returns-2 : tie.Need-returns-2
+returns-2 c = rw (sym (c .before .before .before .is-board .ensures) ∙ not-false _ (c .before .before .if1 .left), sym (c .before .is-cell .ensures) ∙ not-true _ (c .if2 .taken))
+
+spread-all-requires : tie.Need-spread-all-requires
+spread-all-requires c κs = let k = cell-known _ _ (sym (c .before .before .is-cell .ensures) ∙ not-false _ (c .before .if2 .left)) in (k .side .least, k .side .most, k .inside)
+
+same-length : tie.Need-same-length
+same-length c = search needs
+
+returns-3 : tie.Need-returns-3
+returns-3 c = broadcast-done _ _ _ _ (sym (c .before .before .before .before .before .before .before .is-board .ensures) ∙ not-false _ (c .before .before .before .before .before .before .if1 .left)) (sym (c .before .before .before .before .before .is-cell .ensures) ∙ not-false _ (c .before .before .before .before .if2 .left)) (c .before .before .spread-all .ensures)
+
+pub broadcast-words-spec : {M : Type 1} → statement M
+broadcast-words-spec =
+    tie.close
+    (tie.spec
+    is-board-requires
+    returns
+    is-cell-requires
+    returns-2
+    spread-all-requires
+    same-length
+    returns-3)

@@ -1,0 +1,27 @@
+-- `spreads::data_sum_words` meets its contract: on a board the lane holds the sum; else it is left.
+use mathlib.Core.Path.{sym, _∙_}
+use borrow.Author.Tests.{not-true, not-false}
+use Rattle.lanes.proofs.Held.{board-known}
+use Rattle.spreads.proofs.Composing.{data-sum-done}
+use borrow.Author.Needs.{needs}
+use Rattle.spreads.proofs.data_sum_words.Statement.{statement}
+use Rattle.spreads.proofs.data_sum_words.Tie as tie
+
+is-board-requires : tie.Need-is-board-requires
+is-board-requires c κs = search needs
+
+returns : tie.Need-returns
+returns c = rw (sym (c .before .is-board .ensures) ∙ not-true _ (c .if1 .taken))
+
+sum-all-requires : tie.Need-sum-all-requires
+sum-all-requires c κs = board-known _ _ (sym (c .before .before .is-board .ensures) ∙ not-false _ (c .before .if1 .left)) .least
+
+same-length : tie.Need-same-length
+same-length c = search needs
+
+returns-2 : tie.Need-returns-2
+returns-2 c = data-sum-done _ _ _ (sym (c .before .before .before .before .before .is-board .ensures) ∙ not-false _ (c .before .before .before .before .if1 .left)) (λ i. c .before .before .before .before .before .before .slice-known .given i .fits) (c .before .before .sum-all .ensures)
+
+pub data-sum-words-spec : {M : Type 1} → statement M
+data-sum-words-spec =
+    tie.close (tie.spec is-board-requires returns sum-all-requires same-length returns-2)
