@@ -1,3 +1,4 @@
+use native.Mathlib.Omega.{arith}
 -- `lanes::is_run` meets its contract: by the tests of the board, the start and the number of moves.
 use mathlib.Core.Path.{sym, _∙_}
 use borrow.Author.Tests.{le-leb, lt-leb}
@@ -9,10 +10,10 @@ is-board-requires : tie.Need-is-board-requires
 is-board-requires c κs = search needs
 
 returns : tie.Need-returns
-returns c = rw (sym (c .before .before .is-board .ensures) ∙ c .before .if1 .taken, le-leb _ _ (c .if2 .taken))
+returns c = rw (sym (c .before .before .is-board .ensures) ∙ c .before .if1 .taken, le-leb (c .before .before .before .args .e) (c .before .before .before .args .side) (omega arith))
 
 returns-2 : tie.Need-returns-2
-returns-2 c = rw (sym (c .before .before .is-board .ensures) ∙ c .before .if1 .taken, lt-leb _ _ (c .if2 .left))
+returns-2 c = rw (sym (c .before .before .is-board .ensures) ∙ c .before .if1 .taken, lt-leb (c .before .before .before .args .e) (c .before .before .before .args .side) (omega arith))
 
 returns-3 : tie.Need-returns-3
 returns-3 c = rw (sym (c .before .is-board .ensures) ∙ c .if1 .left)

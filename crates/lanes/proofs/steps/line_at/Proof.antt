@@ -7,7 +7,7 @@ use Rattle.lanes.proofs.steps.line_at.Statement.{statement}
 use Rattle.lanes.proofs.steps.line_at.Tie as tie
 
 returns : tie.Need-returns
-returns c = line-off (c .before .args .side) (c .before .args .way) (c .before .args .p) (c .if1 .taken)
+returns c = line-off (c .before .args .side) (c .before .args .way) (c .before .args .p) (omega arith)
 
 along-requires : tie.Need-along-requires
 along-requires c κs = search needs
@@ -22,19 +22,19 @@ enum-known-from : tie.Need-enum-known-from
 enum-known-from c = search needs
 
 mul-t10 : tie.Need-mul-t10
-mul-t10 c = omega (arith, along-few (a-group (c .before .before .before .before .before .before .before .pre .0) (c .before .before .before .before .before .before .before .pre .1)) (c .before .before .before .before .before .before .before .args .way) (c .before .before .before .before .before .before .before .args .p) _ (c .before .before .before .before .before .before .if1 .left) (c .before .before .before .before .before .along .ensures))
+mul-t10 c = omega (arith, along-few (a-group (c .before .before .before .before .before .before .before .pre .0) (c .before .before .before .before .before .before .before .pre .1)) (c .before .before .before .before .before .before .before .args .way) (c .before .before .before .before .before .before .before .args .p) _ (omega arith) (c .before .before .before .before .before .along .ensures))
 
 mul-t11 : tie.Need-mul-t11
-mul-t11 c = omega (arith, along-few (a-group (c .before .before .before .before .before .before .before .pre .0) (c .before .before .before .before .before .before .before .pre .1)) (c .before .before .before .before .before .before .before .args .way) (c .before .from .given .0 .0) _ (behind-is _ (c .before .before .before .before .before .before .before .args .way) (c .before .before .before .before .before .before .before .args .p) (c .before .from .given .0 .0) (c .before .before .before .before .before .before .if1 .left) (sym (c .before .before .before .behind .ensures) ∙ c .before .from .given .1) .inside) (c .before .before .before .before .before .along .ensures))
+mul-t11 c = omega (arith, along-few (a-group (c .before .before .before .before .before .before .before .pre .0) (c .before .before .before .before .before .before .before .pre .1)) (c .before .before .before .before .before .before .before .args .way) (c .before .from .given .0 .0) _ (behind-is _ (c .before .before .before .before .before .before .before .args .way) (c .before .before .before .before .before .before .before .args .p) (c .before .from .given .0 .0) (omega arith) (sym (c .before .before .before .behind .ensures) ∙ c .before .from .given .1) .inside) (c .before .before .before .before .before .along .ensures))
 
 enum-told : tie.Need-enum-told
 enum-told c = search needs
 
 returns-2 : tie.Need-returns-2
-returns-2 c = line-found (c .before .before .before .before .before .before .before .args .side) (c .before .before .before .before .before .before .before .args .way) (c .before .before .before .before .before .before .before .args .p) _ _ _ _ (c .before .before .before .before .before .before .if1 .left) (c .before .before .before .behind .ensures) (c .before .from .given .1) (c .before .before .before .before .before .along .ensures) (c .before .before .before .before .across .ensures)
+returns-2 c = line-found (c .before .before .before .before .before .before .before .args .side) (c .before .before .before .before .before .before .before .args .way) (c .before .before .before .before .before .before .before .args .p) _ _ _ _ (omega arith) (c .before .before .before .behind .ensures) (c .before .from .given .1) (c .before .before .before .before .before .along .ensures) (c .before .before .before .before .across .ensures)
 
 returns-3 : tie.Need-returns-3
-returns-3 c = line-missed (c .before .before .before .before .before .before .args .side) (c .before .before .before .before .before .before .args .way) (c .before .before .before .before .before .before .args .p) _ (c .before .before .before .before .before .if1 .left) (c .before .before .behind .ensures) (c .enum-told .given .1)
+returns-3 c = line-missed (c .before .before .before .before .before .before .args .side) (c .before .before .before .before .before .before .args .way) (c .before .before .before .before .before .before .args .p) _ (omega arith) (c .before .before .behind .ensures) (c .enum-told .given .1)
 
 pub line-at-spec : {M : Type 1} → statement M
 line-at-spec =
