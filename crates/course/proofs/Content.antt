@@ -12,10 +12,10 @@ use Rattle.laws.proofs.Totals.{sum-zero, sum-point, sum-swap}
 use Rattle.laws.proofs.Deciding.{apart}
 use Rattle.array.specs.Cells.{ahead, onward}
 use Rattle.array.specs.Moves.{opposite}
-use Rattle.mesh.specs.declared.cells.Rec.{Rec}
-use Rattle.mesh.specs.declared.cells.Cell.{Cell}
+use Rattle.slots.specs.declared.Rec.{Rec}
+use Rattle.slots.specs.declared.Cell.{Cell}
 use Rattle.mesh.specs.declared.moving.Rule.{Rule}
-use Rattle.mesh.specs.Cells.{joined, countOf}
+use Rattle.slots.specs.Cells.{joined, countOf}
 use Rattle.mesh.specs.Mesh.{goesIn, goerOf, behind, arrivalOf, movedOf}
 use Rattle.mesh.proofs.Stepping.{stepped, from-behind, step-other}
 use Rattle.mesh.proofs.Sweep.{never, goes-ahead, no-arrival, an-arrival}

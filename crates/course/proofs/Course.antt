@@ -15,9 +15,9 @@ use Rattle.array.specs.declared.moves.Move.the-variants.{Swap, Electronic}
 use Rattle.array.specs.Cells.{cells, partner}
 use Rattle.array.proofs.Board.{partner-in, partner-twice}
 use Rattle.travel.specs.declared.turns.Turn.{Turn}
-use Rattle.mesh.specs.declared.cells.Rec.{Rec}
-use Rattle.mesh.specs.declared.cells.Cell.{Cell}
-use Rattle.mesh.specs.Cells.{nothing, joined, marksIn}
+use Rattle.slots.specs.declared.Rec.{Rec}
+use Rattle.slots.specs.declared.Cell.{Cell}
+use Rattle.slots.specs.Cells.{nothing, joined, marksIn}
 use Rattle.mover.specs.Runs.{ruleOf, turnOn, madeBy, goneBy, goneOn, after}
 use Rattle.mover.proofs.Running.{made-same, gone-same}
 use Rattle.course.specs.Showing.{contentOf, changed, Shows}

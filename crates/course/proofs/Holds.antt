@@ -5,11 +5,11 @@ use mathlib.Core.Logic.{_⊎_, inl, inr, ⊎-elim}
 use mathlib.Core.Bool.{Bool, true, false}
 use native.Mathlib.Omega.{arith}
 use borrow.Author.Tests.{lt-ltb, le-ltb}
-use Rattle.mesh.specs.declared.cells.Rec.{Rec}
-use Rattle.mesh.specs.declared.cells.Cell.{Cell}
+use Rattle.slots.specs.declared.Rec.{Rec}
+use Rattle.slots.specs.declared.Cell.{Cell}
 use Rattle.mesh.specs.declared.moving.Rule.{Rule}
-use Rattle.mesh.specs.Cells.{nothing, empty, joined}
-use Rattle.mesh.specs.Mesh.{goesIn, goerOf, stayedOf, firstOf, restOf}
+use Rattle.slots.specs.Cells.{nothing, empty, joined, firstOf, restOf}
+use Rattle.mesh.specs.Mesh.{goesIn, goerOf, stayedOf}
 use Rattle.mesh.proofs.Sweep.{never}
 use Rattle.laws.proofs.Deciding.{apart}
 

@@ -24,7 +24,7 @@ use Rattle.travel.proofs.Collide.{same, Starts, heads₁, heads₂, never-three
 use Rattle.travel.proofs.Range.{stands-in-range, stands-suc}
 use Rattle.travel.proofs.Moving.{made, seatOn, seatOn<, step-on, undone, level, level-back, uneven, uneven-back}
 use Rattle.travel.proofs.Legs.{home, key, Leg, Stage, leg, light, stage}
-use Rattle.mesh.specs.declared.cells.Rec.{Rec}
+use Rattle.slots.specs.declared.Rec.{Rec}
 use Rattle.mesh.specs.declared.moving.Rule.{Rule}
 use Rattle.mesh.specs.Mesh.{goesIn, headingOf}
 use Rattle.mesh.proofs.Sweep.{goes-far}

@@ -5,9 +5,9 @@ use mathlib.Core.Bool.{cond}
 use lib.Dec.{eqb}
 use Rattle.laws.specs.Sums.{sum}
 use Rattle.array.specs.Cells.{cells}
-use Rattle.mesh.specs.declared.cells.Rec.{Rec}
-use Rattle.mesh.specs.declared.cells.Cell.{Cell}
-use Rattle.mesh.specs.Cells.{empty, joined}
+use Rattle.slots.specs.declared.Rec.{Rec}
+use Rattle.slots.specs.declared.Cell.{Cell}
+use Rattle.slots.specs.Cells.{empty, joined}
 
 -- what cell j holds, of records R 0 to R (b - 1)
 unfoldable pub contentOf : ℕ → (ℕ → Rec) → (ℕ → ℕ) → ℕ → Cell

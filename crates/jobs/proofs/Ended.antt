@@ -7,18 +7,18 @@ use native.Mathlib.Omega.{arith}
 use lib.ListN.{length, getD}
 use Rattle.array.specs.Cells.{cells}
 use Rattle.travel.proofs.Collide.{at-the-end}
-use Rattle.mesh.specs.declared.cells.Rec.{Rec}
-use Rattle.mesh.specs.declared.cells.Cell.{Cell}
-use Rattle.mesh.specs.Cells.{alone, cellAt}
+use Rattle.slots.specs.declared.Rec.{Rec}
+use Rattle.slots.specs.declared.Cell.{Cell}
+use Rattle.slots.specs.Cells.{alone, cellAt}
 use Rattle.course.specs.Showing.{Shows}
 use Rattle.course.proofs.Holds.{hold1, holds-one}
 use Rattle.course.proofs.Content.{Rising, content-holds}
 use Rattle.course.proofs.Course.{shows-same}
 use Rattle.marks.specs.Marks.{rankIn}
-use Rattle.records.specs.Cases.{totalMoves}
+use Rattle.refusals.specs.Cases.{totalMoves, Good}
 use Rattle.records.specs.Records.{markedCell, countIn}
-use Rattle.records.specs.Entries.{Good, Stood}
-use Rattle.records.proofs.Aims.{good-ranked}
+use Rattle.records.specs.Entries.{Stood}
+use Rattle.refusals.proofs.Aims.{good-ranked}
 use Rattle.records.proofs.Marked.{fits-alone, start-rises, start-inside, start-rising}
 
 -- where each record stands in the cell of its own number it stands there alone

@@ -25,9 +25,9 @@ use Rattle.marks.specs.Marks.{marksCase, rankIn}
 use Rattle.marks.proofs.Checked.{good-passes}
 use Rattle.ranking.specs.Ranks.{aimIn, ranks}
 use Rattle.ranking.specs.Entries.{rankCases, Ranked}
-use Rattle.records.specs.Cases.{badAim, aimsCase}
+use Rattle.refusals.specs.Cases.{badAim, aimsCase, fullCases, Good}
 use Rattle.records.specs.Records.{movedCounts}
-use Rattle.records.specs.Entries.{fullCases, Good, FullRun}
+use Rattle.records.specs.Entries.{FullRun}
 use Rattle.jobs.specs.Filled.{movesOf}
 use Rattle.jobs.specs.Inside.{Board, Settled}
 use Rattle.jobs.proofs.Ended.{word-there}

@@ -8,7 +8,7 @@ use Rattle.laws.specs.Tables.{entries}
 use Rattle.array.specs.Cells.{isSide, cells}
 use Rattle.logs.specs.Runs.{codes as codesOf}
 use Rattle.lists.specs.Lists.{concentrateRuns}
-use Rattle.mesh.specs.Cells.{Sized}
+use Rattle.slots.specs.Cells.{Sized}
 use Rattle.records.specs.Records.{markedCell, countIn, movedCounts}
 use Rattle.answertext.specs.Answers.{answerText}
 use Rattle.jobs.specs.Filled.{movesOf}

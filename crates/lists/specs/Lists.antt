@@ -1,6 +1,6 @@
 -- The move list of each operation but the shifts, in nine runs; a shorter list has runs of no moves.
 use Prim.Native.Nat.{ℕ, _-_}
-use mathlib.Core.Bool.{cond}
+use mathlib.Core.Bool.{Bool, true, false, cond}
 use mathlib.Core.List.{List, [], _∷_, _++_, map}
 use Rattle.array.specs.declared.moves.Way.the-variants.{Right, Left, Up, Down}
 use Rattle.logs.specs.declared.Run.{Run}
@@ -32,3 +32,8 @@ concentrateRuns s = map (whole (s - 1)) (right ∷ left ∷ up ∷ down ∷ swap
 
 abbrev pub distributeRuns : ℕ → List Run
 distributeRuns s = map (whole (s - 1)) (swap ∷ down ∷ right ∷ left ∷ swap ∷ up ∷ down ∷ right ∷ left ∷ [])
+
+-- the list of concentrate, or of distribute, which goes back
+abbrev pub runsOf : Bool → ℕ → List Run
+runsOf false s = concentrateRuns s
+runsOf true s = distributeRuns s

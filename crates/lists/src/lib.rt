@@ -13,7 +13,7 @@ ghost use mathlib.Core.List.{map};
 ghost use Prim.Native.Nat.{_-_, _<_, _≤_};
 ghost use Rattle.logs.specs.Runs.{whole as wholeOf};
 ghost use Rattle.array.specs.Cells.{groups as groupsOf};
-ghost use Rattle.lists.specs.Lists.{spreadRuns, broadcastRuns, dataSumRuns, prefixSumRuns, concentrateRuns, distributeRuns};
+ghost use Rattle.lists.specs.Lists.{spreadRuns, broadcastRuns, dataSumRuns, prefixSumRuns, concentrateRuns, distributeRuns, runsOf};
 
 fn one_less(side: usize) -> usize
     ensures { λ r. ⌜ r ≡ side - 1 ⌝ }
@@ -86,6 +86,16 @@ pub fn distribute_runs(side: usize) -> [Run; 9]
         one_less(side),
         [SWAP, DOWN, RIGHT, LEFT, SWAP, UP, DOWN, RIGHT, LEFT],
     )
+}
+
+// The list of concentrate, or of distribute, which goes back.
+pub fn runs_of(back: bool, side: usize) -> [Run; 9]
+    ensures { λ r. ⌜ r ≡ runsOf back side ⌝ }
+{
+    if back {
+        return distribute_runs(side);
+    }
+    concentrate_runs(side)
 }
 
 // From place p to its whole group.

@@ -13,9 +13,9 @@ use Rattle.laws.proofs.Totals.{sum-few}
 use Rattle.laws.proofs.Deciding.{apart}
 use Rattle.array.specs.Cells.{groups, cells, group}
 use Rattle.array.proofs.Board.{group-of}
-use Rattle.mesh.specs.declared.cells.Cell.{Cell}
+use Rattle.slots.specs.declared.Cell.{Cell}
 use Rattle.mesh.specs.declared.moving.Rule.{Rule}
-use Rattle.mesh.specs.Cells.{countOf}
+use Rattle.slots.specs.Cells.{countOf}
 use Rattle.mesh.specs.Mesh.{goerOf, movedOf}
 use Rattle.mesh.specs.Inside.{MovedPart}
 use Rattle.mesh.specs.Moved.{MovedAll}

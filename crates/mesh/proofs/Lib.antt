@@ -1,10 +1,8 @@
-pub mod Boards
 pub mod Digits
 pub mod Fractions
 pub mod Going
 pub mod Groups
 pub mod Parts
 pub mod Sending
-pub mod Slots
 pub mod Stepping
 pub mod Sweep

@@ -13,13 +13,13 @@ use Rattle.array.specs.declared.moves.Way.{Way}
 use Rattle.array.specs.Cells.{groups, group, place, ahead, onward}
 use Rattle.array.specs.Moves.{opposite}
 use Rattle.array.proofs.Board.{place-of, group-of}
-use Rattle.mesh.specs.declared.cells.Rec.{Rec}
-use Rattle.mesh.specs.declared.cells.Cell.{Cell}
+use Rattle.slots.specs.declared.Rec.{Rec}
+use Rattle.slots.specs.declared.Cell.{Cell}
 use Rattle.mesh.specs.declared.moving.Rule.{Rule}
-use Rattle.mesh.specs.Cells.{joined, countOf, cellAt, Sized}
+use Rattle.slots.specs.Cells.{joined, countOf, cellAt, Sized}
 use Rattle.mesh.specs.Mesh.{goesIn, goerOf, stayedOf, behind, arrivalOf, movedOf}
 use Rattle.mesh.specs.Inside.{MovedGroup, MovedPart}
-use Rattle.mesh.proofs.Slots.{cell-ext}
+use Rattle.slots.proofs.Stored.{cell-ext}
 use Rattle.mesh.proofs.Stepping.{ahead-reach, stepped}
 use Rattle.mesh.proofs.Sweep.{no-arrival, an-arrival, behind-in}
 

@@ -10,13 +10,13 @@ use lib.Dec.{eqb}
 use lib.ListN.{getD}
 use Rattle.laws.proofs.Deciding.{same?}
 use Rattle.array.specs.Cells.{groups, ahead, onward}
-use Rattle.mesh.specs.declared.cells.Rec.{Rec}
-use Rattle.mesh.specs.declared.cells.Cell.{Cell}
+use Rattle.slots.specs.declared.Rec.{Rec}
+use Rattle.slots.specs.declared.Cell.{Cell}
 use Rattle.mesh.specs.declared.moving.Rule.{Rule}
-use Rattle.mesh.specs.Cells.{nothing, joined, countOf, cellAt}
-use Rattle.mesh.specs.Mesh.{goesIn, firstOf, restOf, goerOf, stayedOf}
+use Rattle.slots.specs.Cells.{nothing, joined, countOf, cellAt, firstOf, restOf}
+use Rattle.mesh.specs.Mesh.{goesIn, goerOf, stayedOf}
 use Rattle.mesh.specs.Inside.{HandedOn, Sent}
-use Rattle.mesh.proofs.Slots.{joined-none}
+use Rattle.slots.proofs.Stored.{joined-none}
 use Rattle.mesh.proofs.Stepping.{stepped}
 use Rattle.mesh.proofs.Sweep.{goes-marked, goes-ahead, never}
 

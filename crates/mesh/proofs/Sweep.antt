@@ -16,14 +16,14 @@ use Rattle.array.specs.declared.moves.Way.the-variants.{Right, Left, Up, Down}
 use Rattle.array.specs.Cells.{groups, place, ahead, onward}
 use Rattle.array.specs.Moves.{opposite}
 use Rattle.travel.specs.Travel.{distance}
-use Rattle.mesh.specs.declared.cells.Rec.{Rec}
-use Rattle.mesh.specs.declared.cells.Cell.{Cell}
+use Rattle.slots.specs.declared.Rec.{Rec}
+use Rattle.slots.specs.declared.Cell.{Cell}
 use Rattle.mesh.specs.declared.moving.Rule.{Rule}
-use Rattle.mesh.specs.Cells.{nothing, joined, countOf}
+use Rattle.slots.specs.Cells.{nothing, joined, countOf}
 use Rattle.mesh.specs.Inside.{turnOf}
 use Rattle.mesh.specs.Mesh.{headingOf, goesIn, goerOf, stayedOf, behind, arrivalOf, movedOf}
 use Rattle.mesh.specs.Inside.{Sent, MovedGroup}
-use Rattle.mesh.proofs.Slots.{joined-none}
+use Rattle.slots.proofs.Stored.{joined-none}
 use Rattle.mesh.proofs.Stepping.{stepped, from-behind, distance-ahead, step-other}
 
 pub heading-in : (t : Rule) → 0 < t .side → (aim : ℕ) → headingOf t aim < groups (t .side)

@@ -9,10 +9,10 @@ use Rattle.laws.specs.Sums.{sum}
 use Rattle.array.specs.declared.moves.Way.{Way}
 use Rattle.array.specs.declared.moves.Way.the-variants.{Right, Left, Up, Down}
 use Rattle.array.specs.Cells.{isSide, groups, row, column, onward}
-use Rattle.mesh.specs.declared.cells.Cell.{Cell}
+use Rattle.slots.specs.declared.Cell.{Cell}
 use Rattle.mesh.specs.declared.moving.Rule.{Rule}
-use Rattle.mesh.specs.Cells.{joined, countOf}
-use Rattle.mesh.specs.Mesh.{firstOf, restOf, goerOf, stayedOf, movedOf}
+use Rattle.slots.specs.Cells.{joined, countOf, firstOf, restOf}
+use Rattle.mesh.specs.Mesh.{goerOf, stayedOf, movedOf}
 
 -- the weight of the digit: s ^ 0 or s ^ 2 of a column, and s ^ 1 or s ^ 3 of a row
 abbrev pub unitOf : ℕ → Bool → ℕ

@@ -1,4 +1,3 @@
-pub mod Cells
 pub mod Inside
 pub mod Mesh
 pub mod Moved

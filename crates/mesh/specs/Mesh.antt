@@ -5,10 +5,10 @@ use lib.Dec.{ltb, eqb}
 use Rattle.array.specs.Cells.{groups, place, ahead, onward}
 use Rattle.array.specs.Moves.{opposite}
 use Rattle.travel.specs.Travel.{distance}
-use Rattle.mesh.specs.declared.cells.Rec.{Rec}
-use Rattle.mesh.specs.declared.cells.Cell.{Cell}
+use Rattle.slots.specs.declared.Rec.{Rec}
+use Rattle.slots.specs.declared.Cell.{Cell}
 use Rattle.mesh.specs.declared.moving.Rule.{Rule}
-use Rattle.mesh.specs.Cells.{nothing, alone, joined}
+use Rattle.slots.specs.Cells.{nothing, joined, firstOf, restOf}
 
 -- the place that a record heads for: by the last two digits of its aim in base s, or by the first two
 abbrev pub headingOf : Rule → ℕ → ℕ
@@ -18,17 +18,7 @@ headingOf t aim = cond (t .low) (aim % groups (t .side)) (aim / groups (t .side)
 unfoldable pub goesIn : Rule → ℕ → Rec → Bool
 goesIn t i x = cond (eqb (x .mark) 0) false (ltb (t .wait) (distance (t .side) (t .way) (headingOf t (x .aim)) (place (t .side) i)))
 
--- the record that leaves a cell, and the cell without it: the front one where that goes, or else the spare one
-abbrev pub firstOf : Bool → Bool → Cell → Rec
-firstOf true g c = c .front
-firstOf false true c = c .spare
-firstOf false false c = nothing
-
-abbrev pub restOf : Bool → Bool → Cell → Cell
-restOf true g c = alone (c .spare)
-restOf false true c = alone (c .front)
-restOf false false c = c
-
+-- the record that leaves a cell, and the cell without it
 unfoldable pub goerOf : Rule → ℕ → Cell → Rec
 goerOf t i c = firstOf (goesIn t i (c .front)) (goesIn t i (c .spare)) c
 

@@ -4,9 +4,9 @@ use mathlib.Core.Path.{_≡_}
 use mathlib.Core.Bool.{Bool, true, false}
 use Rattle.laws.specs.Sums.{sum}
 use Rattle.array.specs.Cells.{cells}
-use Rattle.mesh.specs.declared.cells.Cell.{Cell}
+use Rattle.slots.specs.declared.Cell.{Cell}
 use Rattle.mesh.specs.declared.moving.Rule.{Rule}
-use Rattle.mesh.specs.Cells.{countOf}
+use Rattle.slots.specs.Cells.{countOf}
 use Rattle.mesh.specs.Mesh.{goerOf, movedOf}
 
 -- all groups have moved

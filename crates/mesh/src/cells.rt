@@ -1,96 +1,11 @@
-// What a cell holds, and the six lanes that hold it.
-use light::is_board;
+// A cell of six lanes, read and stored.
+use slots::Cell;
+use slots::Rec;
 ghost use mathlib.Core.Path.{_≡_};
 ghost use mathlib.Core.Bool.{cond};
 ghost use Prim.Native.Nat.{ℕ, _<_};
 ghost use lib.Dec.{eqb};
-ghost use Rattle.mesh.specs.Cells.{Sized, areLanes, cellAt, nothing as nothingOf, joined as joinedOf, countOf};
-
-// A record: its word, its mark (1, or 0 where there is none) and its aim.
-pub struct Rec {
-    pub word: u32,
-    pub mark: u8,
-    pub aim: u16,
-}
-
-// A cell: its record, and a second one.
-pub struct Cell {
-    pub front: Rec,
-    pub spare: Rec,
-}
-
-// Six lanes of these lengths are those of a board.
-pub fn are_lanes(
-    side: usize,
-    words: usize,
-    marks: usize,
-    aims: usize,
-    spare_words: usize,
-    spare_marks: usize,
-    spare_aims: usize,
-) -> bool
-    ensures { λ r. ⌜ r ≡ areLanes side words marks aims «spare_words» «spare_marks» «spare_aims» ⌝ }
-{
-    if !is_board(side, words) {
-        return false;
-    }
-    if !is_board(side, marks) {
-        return false;
-    }
-    if !is_board(side, aims) {
-        return false;
-    }
-    if !is_board(side, spare_words) {
-        return false;
-    }
-    if !is_board(side, spare_marks) {
-        return false;
-    }
-    is_board(side, spare_aims)
-}
-
-pub(crate) fn nothing() -> Rec
-    ensures { λ r. ⌜ r ≡ nothingOf ⌝ }
-{
-    Rec {
-        word: 0,
-        mark: 0,
-        aim: 0,
-    }
-}
-
-pub(crate) fn count(x: Rec) -> usize
-    ensures { λ r. ⌜ r ≡ countOf x ⌝ }
-{
-    if x.mark == 0 { 0 } else { 1 }
-}
-
-// A cell with a record put in: of two the one with the smaller aim is in front.
-pub(crate) fn joined(c: Cell, x: Rec) -> Cell
-    ensures { λ r. ⌜ r ≡ joinedOf c x ⌝ }
-{
-    if x.mark == 0 {
-        return c;
-    }
-    let front = c.front;
-    if front.mark == 0 {
-        let none = nothing();
-        return Cell {
-            front: x,
-            spare: none,
-        };
-    }
-    if x.aim < front.aim {
-        return Cell {
-            front: x,
-            spare: front,
-        };
-    }
-    Cell {
-        front: front,
-        spare: x,
-    }
-}
+ghost use Rattle.slots.specs.Cells.{Sized, cellAt};
 
 // What cell i of n holds.
 pub(crate) fn read(

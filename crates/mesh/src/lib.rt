@@ -1,3 +1,3 @@
-// What a cell holds, and one electronic move of all cells.
-pub mod cells;
+// One electronic move of all cells.
+mod cells;
 pub mod moving;

@@ -1,22 +1,20 @@
 // One electronic move: every record that goes leaves its cell for the next one along the way. All groups make the same move.
-use crate::cells::Cell;
-use crate::cells::Rec;
-use crate::cells::are_lanes;
-use crate::cells::joined;
-use crate::cells::nothing;
 use crate::cells::put;
 use crate::cells::read;
 use array::moves::Way;
+use slots::are_lanes;
+use slots::joined;
+use slots::leaver;
+use slots::left;
 ghost use mathlib.Core.Path.{_≡_};
 ghost use mathlib.Core.Bool.{true, _||_};
 ghost use Prim.Native.Nat.{ℕ, _+_, _-_, _*_, _<_, _≤_, min};
 ghost use lib.ListN.{length};
 ghost use Rattle.array.specs.Cells.{isSide, groups, cells, onward as onwardOf};
-ghost use Rattle.mesh.specs.Cells.{Sized, cellAt, areLanes};
-ghost use Rattle.mesh.specs.Inside.{unitOf, scaleOf, coordinate as coordinateOf, turnOf};
-ghost use Rattle.mesh.specs.Mesh.{goesIn, firstOf, restOf};
+ghost use Rattle.slots.specs.Cells.{Sized, cellAt, areLanes};
+ghost use Rattle.mesh.specs.Mesh.{goesIn};
 ghost use Rattle.mesh.specs.Moved.{MovedLanes};
-ghost use Rattle.mesh.specs.Inside.{periodOf, shareOf, limitFor, limitOf, Limited, Ready, HandedOn, Sent, MovedGroup, MovedPart};
+ghost use Rattle.mesh.specs.Inside.{unitOf, scaleOf, coordinate as coordinateOf, turnOf, periodOf, shareOf, limitFor, limitOf, Limited, Ready, HandedOn, Sent, MovedGroup, MovedPart};
 
 // One move of a list: the way, whether a record heads for its aim mod N (low) or div N, and how far off it waits.
 pub struct Rule {
@@ -137,31 +135,6 @@ fn goes(t: Rule, share: usize, limit: usize, at: usize, mark: u8, aim: u16) -> b
         Way::Left => along < limit,
         Way::Up => along < limit,
         Way::Down => limit <= along,
-    }
-}
-
-// The record that leaves a cell, the front one or the spare one, and the cell without it.
-fn leaver(first: bool, c: Cell) -> Rec
-    ensures { λ r. ⌜ r ≡ firstOf first true c ⌝ }
-{
-    if first { c.front } else { c.spare }
-}
-
-fn left(first: bool, c: Cell) -> Cell
-    ensures { λ r. ⌜ r ≡ restOf first true c ⌝ }
-{
-    let front = c.front;
-    let spare = c.spare;
-    let none = nothing();
-    if first {
-        return Cell {
-            front: spare,
-            spare: none,
-        };
-    }
-    Cell {
-        front: front,
-        spare: none,
     }
 }
 

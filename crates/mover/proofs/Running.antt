@@ -19,10 +19,10 @@ use Rattle.array.specs.declared.moves.Move.the-variants.{Swap, Electronic}
 use Rattle.array.specs.Cells.{isSide, cells, group, partner}
 use Rattle.array.proofs.Board.{side-known, partner-in, group-in}
 use Rattle.travel.specs.declared.turns.Turn.{Turn}
-use Rattle.mesh.specs.declared.cells.Cell.{Cell}
+use Rattle.slots.specs.declared.Cell.{Cell}
 use Rattle.mesh.specs.declared.moving.Rule.{Rule}
 use Rattle.light.specs.Lane.{isBoard}
-use Rattle.mesh.specs.Cells.{countOf, marksIn, Sized, areLanes}
+use Rattle.slots.specs.Cells.{countOf, marksIn, Sized, areLanes}
 use Rattle.mesh.specs.Mesh.{goerOf}
 use Rattle.mesh.specs.Moved.{MovedAll, MovedLanes}
 use Rattle.mesh.proofs.Sweep.{one-most}

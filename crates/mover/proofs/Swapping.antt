@@ -8,8 +8,8 @@ use lib.ListN.{length, getD}
 use Rattle.laws.proofs.Tables.{entry-at}
 use Rattle.array.specs.Cells.{isSide, cells, partner}
 use Rattle.light.specs.Lane.{isBoard, swappedLane}
-use Rattle.mesh.specs.Cells.{Sized, cellAt}
-use Rattle.mesh.proofs.Slots.{cell-ext}
+use Rattle.slots.specs.Cells.{Sized, cellAt}
+use Rattle.slots.proofs.Stored.{cell-ext}
 use Rattle.light.specs.Counts.{leavingOf}
 use Rattle.mover.specs.Swaps.{SwappedAll}
 

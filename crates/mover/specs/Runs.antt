@@ -10,20 +10,14 @@ use Rattle.laws.specs.Tables.{entries}
 use Rattle.array.specs.declared.moves.Way.{Way}
 use Rattle.array.specs.declared.moves.Move.{Move}
 use Rattle.array.specs.declared.moves.Move.the-variants.{Swap, Electronic}
-use Rattle.logs.specs.declared.Run.{Run}
 use Rattle.array.specs.Cells.{cells, partner}
-use Rattle.lists.specs.Lists.{concentrateRuns, distributeRuns}
+use Rattle.lists.specs.Lists.{runsOf}
 use Rattle.travel.specs.declared.turns.Turn.{Turn}
 use Rattle.travel.specs.Turns.{turnAt}
-use Rattle.mesh.specs.declared.cells.Cell.{Cell}
+use Rattle.slots.specs.declared.Cell.{Cell}
 use Rattle.mesh.specs.declared.moving.Rule.{Rule}
-use Rattle.mesh.specs.Cells.{countOf, marksIn}
+use Rattle.slots.specs.Cells.{countOf, marksIn}
 use Rattle.mesh.specs.Mesh.{goerOf, movedOf}
-
--- the list of concentrate, or of distribute, which goes back
-abbrev pub runsOf : Bool → ℕ → List Run
-runsOf false s = concentrateRuns s
-runsOf true s = distributeRuns s
 
 abbrev pub turnOn : Bool → ℕ → ℕ → Turn
 turnOn back s k = turnAt (runsOf back s) k

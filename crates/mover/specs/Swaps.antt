@@ -5,8 +5,8 @@ use mathlib.Core.Bool.{cond}
 use lib.Dec.{eqb}
 use Rattle.laws.specs.Sums.{sum}
 use Rattle.array.specs.Cells.{cells, partner}
-use Rattle.mesh.specs.declared.cells.Cell.{Cell}
-use Rattle.mesh.specs.Cells.{marksIn}
+use Rattle.slots.specs.declared.Cell.{Cell}
+use Rattle.slots.specs.Cells.{marksIn}
 
 -- every cell holds what its partner held
 pub record SwappedAll (s : ℕ) (T T′ : ℕ → Cell) (r : ℕ) : Type 0 where

@@ -2,12 +2,10 @@
 use crate::swaps::swap_all;
 use array::moves::Move;
 use array::moves::Way;
-use lists::concentrate_runs;
-use lists::distribute_runs;
-use logs::Run;
-use mesh::cells::are_lanes;
+use lists::runs_of;
 use mesh::moving::Rule;
 use mesh::moving::move_all;
+use slots::are_lanes;
 use travel::turns::Turn;
 use travel::turns::turn_at;
 ghost use mathlib.Core.Path.{_≡_};
@@ -15,8 +13,8 @@ ghost use mathlib.Core.Bool.{true};
 ghost use Prim.Native.Nat.{ℕ, _-_, _≤_};
 ghost use lib.ListN.{length, set};
 ghost use Rattle.array.specs.Cells.{isSide, cells};
-ghost use Rattle.mesh.specs.Cells.{Sized, cellAt, areLanes};
-ghost use Rattle.mover.specs.Runs.{ruleOf, runsOf, Made, Ran};
+ghost use Rattle.slots.specs.Cells.{Sized, cellAt, areLanes};
+ghost use Rattle.mover.specs.Runs.{ruleOf, Made, Ran};
 
 // The rule of an electronic move: concentrate's, or distribute's, which goes back.
 fn rule_of(back: bool, side: usize, way: Way, turn: Turn) -> Rule
@@ -42,15 +40,6 @@ fn one_less(n: usize) -> usize
     ensures { λ r. ⌜ r ≡ n - 1 ⌝ }
 {
     if n < 1 { 0 } else { n - 1 }
-}
-
-pub fn runs_of(back: bool, side: usize) -> [Run; 9]
-    ensures { λ r. ⌜ r ≡ runsOf back side ⌝ }
-{
-    if back {
-        return distribute_runs(side);
-    }
-    concentrate_runs(side)
 }
 
 // One move; how many records are in another cell.

@@ -6,7 +6,7 @@ use light::swap_words;
 ghost use mathlib.Core.Path.{_≡_};
 ghost use mathlib.Core.Bool.{true};
 ghost use Rattle.array.specs.Cells.{isSide, cells};
-ghost use Rattle.mesh.specs.Cells.{Sized, cellAt};
+ghost use Rattle.slots.specs.Cells.{Sized, cellAt};
 ghost use Rattle.mover.specs.Swaps.{SwappedAll};
 
 // All six lanes swap; how many records are in another cell.

@@ -9,17 +9,17 @@ use native.Mathlib.Omega.{arith}
 use lib.ListN.{length, getD}
 use Rattle.array.specs.Cells.{cells}
 use Rattle.travel.specs.Travel.{stands}
-use Rattle.mesh.specs.declared.cells.Rec.{Rec}
-use Rattle.mesh.specs.declared.cells.Cell.{Cell}
-use Rattle.mesh.specs.Cells.{nothing, empty, alone}
+use Rattle.slots.specs.declared.Rec.{Rec}
+use Rattle.slots.specs.declared.Cell.{Cell}
+use Rattle.slots.specs.Cells.{nothing, empty, alone}
 use Rattle.course.proofs.Holds.{Holds, hold0, hold1, hold2, same-holds}
 use Rattle.course.proofs.Content.{At}
 use Rattle.course.proofs.Standing.{below, fits}
 use Rattle.marks.specs.Marks.{rankIn}
-use Rattle.records.specs.Cases.{totalMoves}
+use Rattle.refusals.specs.Cases.{totalMoves, Good}
 use Rattle.records.specs.Records.{markedCell, countIn, recordOf, cellOf}
-use Rattle.records.specs.Entries.{Good, Stood}
-use Rattle.records.proofs.Aims.{Ranked, Aimed, good-ranked, good-aimed}
+use Rattle.records.specs.Entries.{Stood}
+use Rattle.refusals.proofs.Aims.{Ranked, Aimed, good-ranked, good-aimed}
 use Rattle.records.proofs.Marked.{start-rises, start-inside, start-rising, first-rising, rank-past, cell-of, found}
 use Rattle.records.proofs.Demand3.{Slot, Front, Spare, slot, holds, end-alone, distribute-alone, distribute-empty}
 

@@ -16,29 +16,28 @@ use Rattle.array.specs.declared.moves.Way.{Way}
 use Rattle.answers.specs.declared.Answer.{Answer}
 use Rattle.answers.specs.Answers.{acceptedBy}
 use Rattle.array.proofs.Board.{side-known}
-use Rattle.mover.specs.Runs.{runsOf}
 use Rattle.array.specs.Cells.{cells, group}
 use Rattle.logs.specs.Runs.{moves, electronic, swaps}
-use Rattle.lists.specs.Lists.{concentrateRuns}
+use Rattle.lists.specs.Lists.{concentrateRuns, runsOf}
 use Rattle.lists.proofs.Counts.{concentrate-electronic, concentrate-swaps, concentrate-length}
 use Rattle.travel.specs.Travel.{toward, heading}
 use Rattle.travel.proofs.Collide.{at-the-end}
 use Rattle.travel.proofs.Range.{same-group, heading<}
-use Rattle.mesh.specs.declared.cells.Rec.{Rec}
-use Rattle.mesh.specs.declared.cells.Cell.{Cell}
-use Rattle.mesh.specs.Cells.{nothing, empty, alone, cellAt}
+use Rattle.slots.specs.declared.Rec.{Rec}
+use Rattle.slots.specs.declared.Cell.{Cell}
+use Rattle.slots.specs.Cells.{nothing, empty, alone, cellAt}
 use Rattle.course.specs.Showing.{contentOf, Shows}
 use Rattle.course.proofs.Holds.{Holds, hold0, hold1, hold2, holds-one}
 use Rattle.course.proofs.Content.{Rising, Fits, At, content-holds}
 use Rattle.course.proofs.Course.{shows-same}
 use Rattle.course.proofs.Standing.{below, fits}
 use Rattle.marks.specs.Marks.{rankIn}
-use Rattle.records.specs.Cases.{totalMoves}
+use Rattle.refusals.specs.Cases.{totalMoves, Good}
 use Rattle.records.specs.Records.{markedCell, countIn, recordOf, cellOf}
-use Rattle.records.specs.Cuts.{firstRuns}
-use Rattle.records.specs.Entries.{Good, Stood, FullRun, CutRun}
-use Rattle.records.proofs.Verdicting.{FullKnown, full-known, cut-known}
-use Rattle.records.proofs.Aims.{Ranked, Aimed, good-ranked, good-aimed}
+use Rattle.refusals.specs.Cuts.{firstRuns}
+use Rattle.records.specs.Entries.{Stood, FullRun, CutRun}
+use Rattle.refusals.proofs.Verdicting.{FullKnown, full-known, cut-known}
+use Rattle.refusals.proofs.Aims.{Ranked, Aimed, good-ranked, good-aimed}
 use Rattle.records.proofs.Marked.{start-rises, start-inside, start-aims, start-rising, cell-of, rank-past, Found, found, first-rising, aims-rise, fits-alone}
 
 -- the slots of a cell: the front lanes, or the spare ones

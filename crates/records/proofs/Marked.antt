@@ -11,16 +11,16 @@ use lib.Dec.{eqb}
 use Rattle.laws.proofs.Sums.{sum-add}
 use Rattle.laws.proofs.Deciding.{apart, same?}
 use Rattle.array.specs.Cells.{cells}
-use Rattle.mesh.specs.declared.cells.Rec.{Rec}
-use Rattle.mesh.specs.declared.cells.Cell.{Cell}
-use Rattle.mesh.specs.Cells.{empty, alone, recordIn}
+use Rattle.slots.specs.declared.Rec.{Rec}
+use Rattle.slots.specs.declared.Cell.{Cell}
+use Rattle.slots.specs.Cells.{empty, alone, recordIn}
 use Rattle.course.specs.Showing.{Shows}
 use Rattle.course.proofs.Holds.{Holds, hold0, hold1, holds-one}
 use Rattle.course.proofs.Content.{Rising, Fits, At, content-holds}
 use Rattle.marks.specs.Marks.{rankIn}
-use Rattle.records.specs.Cases.{marked}
+use Rattle.refusals.specs.Cases.{marked}
 use Rattle.records.specs.Records.{markedCell}
-use Rattle.records.proofs.Aims.{Ranked, Aimed}
+use Rattle.refusals.proofs.Aims.{Ranked, Aimed}
 
 module _ (marks : List ℕ) where
   -- ranks rise over marked cells

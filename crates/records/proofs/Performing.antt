@@ -16,10 +16,10 @@ use Rattle.array.specs.Cells.{isSide, cells}
 use Rattle.array.proofs.Board.{side-known}
 use Rattle.travel.specs.Travel.{stands}
 use Rattle.travel.proofs.Collide.{at-the-end}
-use Rattle.mesh.specs.declared.cells.Rec.{Rec}
-use Rattle.mesh.specs.declared.cells.Cell.{Cell}
-use Rattle.mesh.specs.Cells.{cellAt, Sized, areLanes, recordIn, alone, empty}
-use Rattle.mesh.proofs.Slots.{cell-ext}
+use Rattle.slots.specs.declared.Rec.{Rec}
+use Rattle.slots.specs.declared.Cell.{Cell}
+use Rattle.slots.specs.Cells.{cellAt, Sized, areLanes, recordIn, alone, empty}
+use Rattle.slots.proofs.Stored.{cell-ext}
 use Rattle.mover.specs.Runs.{turnOn, goneOn, after, movedLog, Ran}
 use Rattle.mover.proofs.Running.{lanes-are}
 use Rattle.course.specs.Showing.{Shows, changed}
@@ -27,11 +27,16 @@ use Rattle.course.proofs.Course.{Step, Course, course-shows, course-counts, sho
 use Rattle.course.proofs.Standing.{concentrate-step, distribute-step}
 use Rattle.clearing.specs.Cleared.{keptAt, kept, zeros}
 use Rattle.marks.specs.Marks.{rankIn}
-use Rattle.records.specs.Cases.{marked, totalMoves}
+use Rattle.refusals.specs.Cases.{marked, totalMoves, Good}
 use Rattle.records.specs.Records.{markedCell, countIn, recordOf, cellOf}
-use Rattle.records.specs.Entries.{Good, Performed}
-use Rattle.records.proofs.Aims.{Aimed, good-ranked, good-aimed}
+use Rattle.records.specs.Entries.{Performed}
+use Rattle.refusals.proofs.Aims.{Aimed, good-ranked, good-aimed}
+use Rattle.refusals.proofs.Verdicting.{Fitting}
 use Rattle.records.proofs.Marked.{Cleared, start-rises, start-inside, start-aims, start-rising, start-shows, first-rising, first-shows}
+
+-- lanes that fit
+pub fitting-sized : {s : ℕ} {w m a w₂ m₂ a₂ : List ℕ} → Fitting s (length w) (length m) (length a) (length w₂) (length m₂) (length a₂) → Sized (cells s) w m a w₂ m₂ a₂
+fitting-sized f = record { words = f .words; marks = f .marks; aims = f .aims; words2 = f .words2; marks2 = f .marks2; aims2 = f .aims2 }
 
 -- lanes that were cleared
 pub cleared-by : (s : ℕ) {w m a w₂ m₂ a₂ w′ a′ w₂′ m₂′ a₂′ : List ℕ} → Sized (cells s) w m a w₂ m₂ a₂ → ((i : ℕ) → i < length m → getD m i 0 < 2)

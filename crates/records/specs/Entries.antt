@@ -1,37 +1,20 @@
 -- What the entries promise: the answer by the table of cases, and of the lanes and logs that were lent, all of it.
-use Prim.Native.Nat.{ℕ, _<_}
+use Prim.Native.Nat.{ℕ}
 use mathlib.Core.Path.{_≡_}
-use mathlib.Core.Bool.{Bool, false}
-use mathlib.Core.List.{List, [], _∷_, _++_}
-use lib.ListN.{length, getD}
+use mathlib.Core.Bool.{Bool}
+use mathlib.Core.List.{List}
+use lib.ListN.{length}
 use lib.Seq.{sets}
 use Rattle.answers.specs.declared.Answer.{Answer}
-use Rattle.answers.specs.declared.Case.{Case}
 use Rattle.logs.specs.Runs.{codes as codesOf}
-use Rattle.answers.specs.Answers.{verdict, logCase, acceptedBy}
-use Rattle.mesh.specs.declared.cells.Cell.{Cell}
-use Rattle.mesh.specs.Cells.{cellAt}
-use Rattle.mover.specs.Runs.{runsOf}
+use Rattle.answers.specs.Answers.{verdict, acceptedBy}
+use Rattle.slots.specs.declared.Cell.{Cell}
+use Rattle.slots.specs.Cells.{cellAt}
+use Rattle.lists.specs.Lists.{runsOf}
 use Rattle.course.specs.Showing.{Shows}
-use Rattle.marks.specs.Marks.{marksCase}
-use Rattle.records.specs.Cases.{badAim, aimsCase, cutCase, laneCases, totalMoves}
-use Rattle.records.specs.Cuts.{firstRuns}
+use Rattle.refusals.specs.Cases.{totalMoves, fullCases, cutCases}
+use Rattle.refusals.specs.Cuts.{firstRuns}
 use Rattle.records.specs.Records.{countIn, recordOf, cellOf, movedCounts}
-
--- the cases of a full run, 1, 2, 3, 5, 6, by the lengths of the lanes and logs
-abbrev pub fullCases : Bool → ℕ → (w m a w₂ m₂ a₂ : ℕ) → ℕ → ℕ → List ℕ → List ℕ → List Case
-fullCases back s w m a w₂ m₂ a₂ codes moved marks aims =
-    laneCases s w m a w₂ m₂ a₂ ++ (logCase (runsOf back s) codes ∷ logCase (runsOf back s) moved ∷ marksCase marks ∷ aimsCase back s marks aims ∷ [])
-
--- and of a cut run, 1, 2, 5, 6, 7
-abbrev pub cutCases : Bool → ℕ → ℕ → (w m a w₂ m₂ a₂ : ℕ) → List ℕ → List ℕ → List Case
-cutCases back s cut w m a w₂ m₂ a₂ marks aims =
-    laneCases s w m a w₂ m₂ a₂ ++ (marksCase marks ∷ aimsCase back s marks aims ∷ cutCase s cut ∷ [])
-
--- marks and aims that are not refused
-pub record Good (back : Bool) (s : ℕ) (marks aims : List ℕ) : Type 0 where
-  pub marks-good : (i : ℕ) → i < length marks → getD marks i 0 < 2
-  pub aims-good : (i : ℕ) → i < length marks → badAim back s marks aims i ≡ false
 
 -- after n moves every cell holds the records that stand there
 abbrev pub Stood : Bool → ℕ → ℕ → List ℕ → List ℕ → List ℕ → (ℕ → Cell) → Type 0

@@ -7,11 +7,11 @@ use lib.ListN.{getD}
 use Rattle.laws.specs.Tables.{entries}
 use Rattle.array.specs.Cells.{cells}
 use Rattle.travel.specs.Travel.{stands}
-use Rattle.mesh.specs.declared.cells.Rec.{Rec}
-use Rattle.mesh.specs.Cells.{recordIn}
+use Rattle.slots.specs.declared.Rec.{Rec}
+use Rattle.slots.specs.Cells.{recordIn}
 use Rattle.course.specs.Showing.{changed}
 use Rattle.marks.specs.Marks.{rankIn}
-use Rattle.records.specs.Cases.{marked, totalMoves}
+use Rattle.refusals.specs.Cases.{marked, totalMoves}
 
 -- the marked cell of rank r, of the cells below n
 unfoldable pub markedCell : List ℕ → ℕ → ℕ → ℕ

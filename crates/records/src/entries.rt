@@ -1,102 +1,22 @@
 // The entries: concentrate and distribute, whole and up to a cut.
-use crate::judging::aims_case;
-use crate::judging::cut_case;
-use crate::judging::first_runs;
-use crate::judging::refusing_lanes;
 use answers::Answer;
-use answers::accepted;
-use answers::accepted_by;
-use answers::log_case;
-use answers::refusing;
 use clearing::keep_aims;
 use clearing::keep_words;
 use clearing::zero_aims;
 use clearing::zero_marks;
 use clearing::zero_words;
+use lists::runs_of;
 use logs::write_codes;
-use marks::marks_case;
 use mover::runs::run;
-use mover::runs::runs_of;
+use refusals::judge_cut;
+use refusals::judge_full;
 ghost use mathlib.Core.Path.{_≡_};
 ghost use mathlib.Core.Bool.{true, false};
-ghost use Prim.Native.Nat.{ℕ, _≤_};
-ghost use lib.ListN.{length};
-ghost use Rattle.answers.specs.Answers.{verdict, acceptedBy};
+ghost use Prim.Native.Nat.{_≤_};
 ghost use Rattle.array.specs.Cells.{isSide, cells};
-ghost use Rattle.mesh.specs.Cells.{Sized, cellAt};
-ghost use Rattle.mover.specs.Runs.{runsOf};
-ghost use Rattle.records.specs.Cases.{totalMoves};
-ghost use Rattle.records.specs.Cuts.{firstRuns};
-ghost use Rattle.records.specs.Entries.{fullCases, cutCases, Good, Performed, FullRun, CutRun};
-
-// The answer of a full run, by the lengths of the lanes and logs and by the marks and aims.
-fn judge_full(
-    back: bool,
-    side: usize,
-    words: usize,
-    marks: &[u8],
-    aims: &[u16],
-    spare_words: usize,
-    spare_marks: usize,
-    spare_aims: usize,
-    codes: usize,
-    moved: usize,
-) -> Answer
-    ensures { λ r. ⌜ r ≡ verdict (fullCases back side words (length (now (marks .entry))) (length (now (aims .entry))) «spare_words» «spare_marks» «spare_aims» codes moved (now (marks .entry)) (now (aims .entry))) (acceptedBy (runsOf back side)) ⌝ }
-{
-    let runs = runs_of(back, side);
-    let good = refusing(marks_case(marks), accepted(0, 0));
-    let logged = refusing(log_case(runs, codes), refusing(log_case(runs, moved), good));
-    let early = refusing_lanes(
-        side,
-        words,
-        marks.len(),
-        aims.len(),
-        spare_words,
-        spare_marks,
-        spare_aims,
-        logged,
-    );
-    if early.number != 0 {
-        return early;
-    }
-    refusing(aims_case(back, side, marks, aims), accepted_by(runs))
-}
-
-// The answer of a run up to a cut.
-fn judge_cut(
-    back: bool,
-    side: usize,
-    cut: usize,
-    words: usize,
-    marks: &[u8],
-    aims: &[u16],
-    spare_words: usize,
-    spare_marks: usize,
-    spare_aims: usize,
-) -> Answer
-    ensures { λ r. ⌜ r ≡ verdict (cutCases back side cut words (length (now (marks .entry))) (length (now (aims .entry))) «spare_words» «spare_marks» «spare_aims» (now (marks .entry)) (now (aims .entry))) (acceptedBy (firstRuns cut (runsOf back side))) ⌝ }
-{
-    let good = refusing(marks_case(marks), accepted(0, 0));
-    let early = refusing_lanes(
-        side,
-        words,
-        marks.len(),
-        aims.len(),
-        spare_words,
-        spare_marks,
-        spare_aims,
-        good,
-    );
-    if early.number != 0 {
-        return early;
-    }
-    let runs = first_runs(runs_of(back, side), cut);
-    refusing(
-        aims_case(back, side, marks, aims),
-        refusing(cut_case(side, cut), accepted_by(runs)),
-    )
-}
+ghost use Rattle.slots.specs.Cells.{Sized, cellAt};
+ghost use Rattle.refusals.specs.Cases.{totalMoves, Good};
+ghost use Rattle.records.specs.Entries.{Performed, FullRun, CutRun};
 
 // Clears unmarked cells and spare lanes, and makes the first moves of the list, up to the cut.
 fn perform(

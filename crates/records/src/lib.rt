@@ -1,3 +1,2 @@
 // Concentrate and distribute, whole and up to a cut.
 pub mod entries;
-pub mod judging;

@@ -8,7 +8,7 @@ use Rattle.answers.specs.declared.Answer.{Answer}
 use Rattle.logs.specs.declared.Run.{Run}
 use Rattle.array.specs.Cells.{cells}
 use Rattle.logs.specs.Runs.{moves, codes as codesOf}
-use Rattle.lists.specs.Lists.{dataSumRuns, prefixSumRuns}
+use Rattle.lists.specs.Lists.{dataSumRuns, prefixSumRuns, runsOf}
 use Rattle.shifts.specs.Shifts.{distanceOf, shiftRuns}
 use Rattle.answers.specs.Answers.{verdict, acceptedBy}
 use Rattle.lanes.specs.Machine.{load, unload, made, runsOf as programRuns}
@@ -20,16 +20,15 @@ use Rattle.prefix.specs.Results.{prefixSumWords}
 use Rattle.slides.specs.Programs.{shift, shiftedBy}
 use Rattle.slides.specs.Results.{shiftWords}
 use Rattle.words.specs.Entries.{dataSumAnswer, prefixSumAnswer, shiftAnswer}
-use Rattle.mesh.specs.declared.cells.Cell.{Cell}
-use Rattle.mesh.specs.Cells.{joined, cellAt}
+use Rattle.slots.specs.declared.Cell.{Cell}
+use Rattle.slots.specs.Cells.{joined, cellAt}
 use Rattle.mesh.specs.Mesh.{goesIn, goerOf, stayedOf, arrivalOf, movedOf}
-use Rattle.mover.specs.Runs.{runsOf, after, movedLog}
+use Rattle.mover.specs.Runs.{after, movedLog}
 use Rattle.course.specs.Showing.{contentOf}
 use Rattle.clearing.specs.Cleared.{kept}
 use Rattle.ranking.specs.Ranks.{ranks}
-use Rattle.records.specs.Cases.{totalMoves}
+use Rattle.refusals.specs.Cases.{totalMoves, fullCases}
 use Rattle.records.specs.Records.{markedCell, countIn, recordOf, cellOf, movedCounts}
-use Rattle.records.specs.Entries.{fullCases}
 use Rattle.stars.specs.Cases.{Case, Concentrate, Distribute, PrefixSum, DataSum, Shift}
 
 -- the lanes of a board, cell by cell

@@ -1,5 +1,5 @@
 -- `mesh::cells::put` meets its contract: two stores in each lane.
-use Rattle.mesh.proofs.Slots.{cells-stored}
+use Rattle.slots.proofs.Stored.{cells-stored}
 use borrow.Author.Needs.{needs}
 use Rattle.mesh.proofs.cells.put.Statement.{statement}
 use Rattle.mesh.proofs.cells.put.Tie as tie

@@ -6,8 +6,8 @@ use mathlib.Core.Path.{_≡_, refl, sym, _∙_}
 use native.Mathlib.Omega.{arith}
 use borrow.Author.Tests.{not-true, not-false}
 use Rattle.array.proofs.Board.{side-known}
-use Rattle.mesh.specs.Cells.{cellAt}
-use Rattle.mesh.proofs.Boards.{Lanes, lanes-known}
+use Rattle.slots.specs.Cells.{cellAt}
+use Rattle.slots.proofs.Boards.{Lanes, lanes-known}
 use Rattle.mesh.proofs.Sweep.{never}
 use Rattle.mesh.proofs.Groups.{Ranged, ranged-start, ranged-step, ranged-few, ranged-end, part-few, part-fits}
 use Rattle.mesh.proofs.moving.move_all.Statement.{statement}

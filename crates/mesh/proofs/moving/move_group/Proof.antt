@@ -6,7 +6,7 @@ use native.Mathlib.Omega.{arith}
 use lib.ListN.{length}
 use Rattle.array.specs.Cells.{groups}
 use Rattle.array.proofs.Board.{side-known}
-use Rattle.mesh.specs.Cells.{Sized, cellAt}
+use Rattle.slots.specs.Cells.{Sized, cellAt}
 use Rattle.mesh.proofs.Sweep.{Swept, swept-start, swept-step, swept-few, swept-end, sent-few, turn-below}
 use Rattle.mesh.proofs.moving.move_group.Statement.{statement}
 use Rattle.mesh.proofs.moving.move_group.Tie as tie

@@ -4,7 +4,7 @@ use mathlib.Core.Path.{_≡_}
 use native.Mathlib.Omega.{arith}
 use Rattle.array.specs.Cells.{groups, cells}
 use Rattle.array.proofs.Board.{side-known}
-use Rattle.mesh.specs.Cells.{Sized}
+use Rattle.slots.specs.Cells.{Sized}
 use Rattle.mesh.proofs.Parts.{part-sized, part-moved}
 use borrow.Author.Needs.{needs}
 use Rattle.mesh.proofs.moving.move_part.Statement.{statement}

@@ -9,9 +9,9 @@ use lib.ListN.{length}
 use Rattle.logs.specs.declared.Run.{Run}
 use Rattle.array.proofs.Board.{side-known}
 use Rattle.travel.specs.Turns.{turnAt}
-use Rattle.mesh.specs.Cells.{cellAt}
-use Rattle.mesh.proofs.Boards.{Lanes, lanes-known}
-use Rattle.mover.specs.Runs.{runsOf}
+use Rattle.slots.specs.Cells.{cellAt}
+use Rattle.slots.proofs.Boards.{Lanes, lanes-known}
+use Rattle.lists.specs.Lists.{runsOf}
 use Rattle.mover.proofs.Running.{Running, running-start, running-next, running-end, ran-nothing, made-few}
 use Rattle.mover.proofs.runs.run.Statement.{statement}
 use Rattle.mover.proofs.runs.run.Tie as tie

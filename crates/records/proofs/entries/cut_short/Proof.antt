@@ -2,9 +2,10 @@
 use mathlib.Core.Path.{refl}
 use lib.ListN.{length}
 use Rattle.answers.specs.Answers.{acceptedBy}
-use Rattle.mover.specs.Runs.{runsOf}
-use Rattle.records.specs.Cuts.{firstRuns}
-use Rattle.records.proofs.Verdicting.{cut-known, fitting-sized}
+use Rattle.lists.specs.Lists.{runsOf}
+use Rattle.refusals.specs.Cuts.{firstRuns}
+use Rattle.refusals.proofs.Verdicting.{cut-known}
+use Rattle.records.proofs.Performing.{fitting-sized}
 use borrow.Author.Needs.{needs}
 use Rattle.records.proofs.entries.cut_short.Statement.{statement}
 use Rattle.records.proofs.entries.cut_short.Tie as tie

@@ -8,8 +8,9 @@ use Rattle.logs.specs.declared.Run.{Run}
 use Rattle.logs.specs.Runs.{codes as codesOf}
 use Rattle.answers.specs.Answers.{acceptedBy}
 use Rattle.array.proofs.Board.{side-known}
-use Rattle.mover.specs.Runs.{runsOf}
-use Rattle.records.proofs.Verdicting.{full-known, fitting-sized}
+use Rattle.lists.specs.Lists.{runsOf}
+use Rattle.refusals.proofs.Verdicting.{full-known}
+use Rattle.records.proofs.Performing.{fitting-sized}
 use borrow.Author.Needs.{needs}
 use Rattle.records.proofs.entries.full.Statement.{statement}
 use Rattle.records.proofs.entries.full.Tie as tie

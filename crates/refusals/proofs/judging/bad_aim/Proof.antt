@@ -1,0 +1,35 @@
+-- `refusals::judging::bad_aim` meets its contract: by the mark, what is before the cell, the aim and the aim before it.
+use mathlib.Core.Path.{_≡_, sym, ap, _∙_}
+use mathlib.Core.Bool.{true, false}
+use native.Mathlib.Omega.{arith}
+use borrow.Author.Tests.{eq-eqb, ne-eqb, lt-ltb, le-ltb, not-true, not-false}
+use Rattle.array.specs.Cells.{isCell}
+use borrow.Author.Needs.{needs}
+use Rattle.refusals.proofs.judging.bad_aim.Statement.{statement}
+use Rattle.refusals.proofs.judging.bad_aim.Tie as tie
+
+returns : tie.Need-returns
+returns c = rw (ne-eqb _ _ (c .if1 .taken))
+
+returns-2 : tie.Need-returns-2
+returns-2 c = rw (eq-eqb _ _ (c .before .before .if1 .left), lt-ltb _ _ (c .if2 .taken))
+
+wide-requires : tie.Need-wide-requires
+wide-requires c κs = search needs
+
+is-cell-requires : tie.Need-is-cell-requires
+is-cell-requires c κs = search needs
+
+returns-3 : tie.Need-returns-3
+returns-3 c = let e : isCell (c .before .before .before .before .before .before .before .args .side) (c .before .before .before .before .before .before .before .args .c .aim) ≡ false = ap (isCell (c .before .before .before .before .before .before .before .args .side)) (sym (c .before .before .wide .ensures)) ∙ sym (c .before .is-cell .ensures) ∙ not-true _ (c .if3 .taken) in rw (eq-eqb _ _ (c .before .before .before .before .before .if1 .left), le-ltb _ _ (c .before .before .before .if2 .left), e)
+
+returns-4 : tie.Need-returns-4
+returns-4 c = let e : isCell (c .before .before .before .before .before .before .before .before .before .args .side) (c .before .before .before .before .before .before .before .before .before .args .c .aim) ≡ true = ap (isCell (c .before .before .before .before .before .before .before .before .before .args .side)) (sym (c .before .before .before .before .wide .ensures)) ∙ sym (c .before .before .before .is-cell .ensures) ∙ not-false _ (c .before .before .if3 .left) in rw (eq-eqb _ _ (c .before .before .before .before .before .before .before .if1 .left), le-ltb _ _ (c .before .before .before .before .before .if2 .left), e, le-ltb 0 (c .before .before .before .before .before .before .before .before .before .args .c .cell) (omega (arith, c .if4 .taken)))
+
+returns-5 : tie.Need-returns-5
+returns-5 c = let e : isCell (c .before .before .before .before .before .before .before .before .before .before .args .side) (c .before .before .before .before .before .before .before .before .before .before .args .c .aim) ≡ true = ap (isCell (c .before .before .before .before .before .before .before .before .before .before .args .side)) (sym (c .before .before .before .before .before .wide .ensures)) ∙ sym (c .before .before .before .before .is-cell .ensures) ∙ not-false _ (c .before .before .before .if3 .left) in rw (eq-eqb _ _ (c .before .before .before .before .before .before .before .before .if1 .left), le-ltb _ _ (c .before .before .before .before .before .before .if2 .left), e, lt-ltb 0 (c .before .before .before .before .before .before .before .before .before .before .args .c .cell) (omega (arith, c .before .if4 .left)))
+
+pub bad-aim-spec : {M : Type 1} → statement M
+bad-aim-spec =
+    tie.close
+    (tie.spec returns returns-2 wide-requires is-cell-requires returns-3 returns-4 returns-5)

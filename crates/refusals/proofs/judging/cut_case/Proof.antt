@@ -1,0 +1,13 @@
+-- `refusals::judging::cut_case` meets its contract: by the moves of the list.
+use borrow.Author.Needs.{needs}
+use Rattle.refusals.proofs.judging.cut_case.Statement.{statement}
+use Rattle.refusals.proofs.judging.cut_case.Tie as tie
+
+is-beyond-requires : tie.Need-is-beyond-requires
+is-beyond-requires c κs = search needs
+
+returns : tie.Need-returns
+returns c = rw (c .is-beyond .ensures)
+
+pub cut-case-spec : {M : Type 1} → statement M
+cut-case-spec = tie.close (tie.spec is-beyond-requires returns)
