@@ -1,7 +1,7 @@
 -- `slots::joined` meets its contract: by the marks, and of two by the aims.
+use native.Mathlib.Omega.{arith}
 use borrow.Author.Tests.{eq-eqb, ne-eqb, lt-ltb, le-ltb}
 use Rattle.slots.specs.Cells.{joined}
-use borrow.Author.Needs.{needs}
 use Rattle.slots.proofs.joined.Statement.{statement}
 use Rattle.slots.proofs.joined.Tie as tie
 
@@ -10,7 +10,7 @@ unfolding joined
 returns c = rw (eq-eqb _ _ (c .if1 .taken))
 
 nothing-requires : tie.Need-nothing-requires
-nothing-requires c κs = search needs
+nothing-requires c κs = tt
 
 returns-2 : tie.Need-returns-2
 unfolding joined
@@ -18,11 +18,11 @@ returns-2 c = rw (ne-eqb _ _ (c .before .before .before .before .if1 .left), eq-
 
 returns-3 : tie.Need-returns-3
 unfolding joined
-returns-3 c = rw (ne-eqb _ _ (c .before .before .before .before .before .before .if1 .left), ne-eqb _ _ (c .before .before .before .if2 .left), lt-ltb _ _ (c .if3 .taken))
+returns-3 c = let s = c .before .before .before .before .before .before .before .before .args in rw (ne-eqb _ _ (c .before .before .before .before .before .before .if1 .left), ne-eqb _ _ (c .before .before .before .if2 .left), lt-ltb (s .x .aim) (s .c .front .aim) (omega (arith, c .if3 .taken)))
 
 returns-4 : tie.Need-returns-4
 unfolding joined
-returns-4 c = rw (ne-eqb _ _ (c .before .before .before .before .before .before .if1 .left), ne-eqb _ _ (c .before .before .before .if2 .left), le-ltb _ _ (c .if3 .left))
+returns-4 c = let s = c .before .before .before .before .before .before .before .before .args in rw (ne-eqb _ _ (c .before .before .before .before .before .before .if1 .left), ne-eqb _ _ (c .before .before .before .if2 .left), le-ltb (s .x .aim) (s .c .front .aim) (omega (arith, c .if3 .left)))
 
 pub joined-spec : {M : Type 1} → statement M
 joined-spec = tie.close (tie.spec returns nothing-requires returns-2 returns-3 returns-4)

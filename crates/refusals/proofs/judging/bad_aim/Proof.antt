@@ -4,7 +4,6 @@ use mathlib.Core.Bool.{true, false}
 use native.Mathlib.Omega.{arith}
 use borrow.Author.Tests.{eq-eqb, ne-eqb, lt-ltb, le-ltb, not-true, not-false}
 use Rattle.array.specs.Cells.{isCell}
-use borrow.Author.Needs.{needs}
 use Rattle.refusals.proofs.judging.bad_aim.Statement.{statement}
 use Rattle.refusals.proofs.judging.bad_aim.Tie as tie
 
@@ -12,22 +11,28 @@ returns : tie.Need-returns
 returns c = rw (ne-eqb _ _ (c .if1 .taken))
 
 returns-2 : tie.Need-returns-2
-returns-2 c = rw (eq-eqb _ _ (c .before .before .if1 .left), lt-ltb _ _ (c .if2 .taken))
+returns-2 c = let x = c .before .before .before .before .args .c in rw (eq-eqb _ _ (c .before .before .if1 .left), lt-ltb (x .rank) (x .cell) (omega (arith, c .if2 .taken)))
 
 wide-requires : tie.Need-wide-requires
-wide-requires c κs = search needs
+wide-requires c κs = tt
 
 is-cell-requires : tie.Need-is-cell-requires
-is-cell-requires c κs = search needs
+is-cell-requires c κs = tt
 
 returns-3 : tie.Need-returns-3
-returns-3 c = let e : isCell (c .before .before .before .before .before .before .before .args .side) (c .before .before .before .before .before .before .before .args .c .aim) ≡ false = ap (isCell (c .before .before .before .before .before .before .before .args .side)) (sym (c .before .before .wide .ensures)) ∙ sym (c .before .is-cell .ensures) ∙ not-true _ (c .if3 .taken) in rw (eq-eqb _ _ (c .before .before .before .before .before .if1 .left), le-ltb _ _ (c .before .before .before .if2 .left), e)
+returns-3 c = let s = c .before .before .before .before .before .before .before .args in
+    let e : isCell (s .side) (s .c .aim) ≡ false = ap (isCell (s .side)) (sym (c .before .before .wide .ensures)) ∙ sym (c .before .is-cell .ensures) ∙ not-true _ (c .if3 .taken) in
+    rw (eq-eqb _ _ (c .before .before .before .before .before .if1 .left), le-ltb (s .c .rank) (s .c .cell) (omega (arith, c .before .before .before .if2 .left)), e)
 
 returns-4 : tie.Need-returns-4
-returns-4 c = let e : isCell (c .before .before .before .before .before .before .before .before .before .args .side) (c .before .before .before .before .before .before .before .before .before .args .c .aim) ≡ true = ap (isCell (c .before .before .before .before .before .before .before .before .before .args .side)) (sym (c .before .before .before .before .wide .ensures)) ∙ sym (c .before .before .before .is-cell .ensures) ∙ not-false _ (c .before .before .if3 .left) in rw (eq-eqb _ _ (c .before .before .before .before .before .before .before .if1 .left), le-ltb _ _ (c .before .before .before .before .before .if2 .left), e, le-ltb 0 (c .before .before .before .before .before .before .before .before .before .args .c .cell) (omega (arith, c .if4 .taken)))
+returns-4 c = let s = c .before .before .before .before .before .before .before .before .before .args in
+    let e : isCell (s .side) (s .c .aim) ≡ true = ap (isCell (s .side)) (sym (c .before .before .before .before .wide .ensures)) ∙ sym (c .before .before .before .is-cell .ensures) ∙ not-false _ (c .before .before .if3 .left) in
+    rw (eq-eqb _ _ (c .before .before .before .before .before .before .before .if1 .left), le-ltb (s .c .rank) (s .c .cell) (omega (arith, c .before .before .before .before .before .if2 .left)), e, le-ltb 0 (s .c .cell) (omega (arith, c .if4 .taken)))
 
 returns-5 : tie.Need-returns-5
-returns-5 c = let e : isCell (c .before .before .before .before .before .before .before .before .before .before .args .side) (c .before .before .before .before .before .before .before .before .before .before .args .c .aim) ≡ true = ap (isCell (c .before .before .before .before .before .before .before .before .before .before .args .side)) (sym (c .before .before .before .before .before .wide .ensures)) ∙ sym (c .before .before .before .before .is-cell .ensures) ∙ not-false _ (c .before .before .before .if3 .left) in rw (eq-eqb _ _ (c .before .before .before .before .before .before .before .before .if1 .left), le-ltb _ _ (c .before .before .before .before .before .before .if2 .left), e, lt-ltb 0 (c .before .before .before .before .before .before .before .before .before .before .args .c .cell) (omega (arith, c .before .if4 .left)))
+returns-5 c = let s = c .before .before .before .before .before .before .before .before .before .before .args in
+    let e : isCell (s .side) (s .c .aim) ≡ true = ap (isCell (s .side)) (sym (c .before .before .before .before .before .wide .ensures)) ∙ sym (c .before .before .before .before .is-cell .ensures) ∙ not-false _ (c .before .before .before .if3 .left) in
+    rw (eq-eqb _ _ (c .before .before .before .before .before .before .before .before .if1 .left), le-ltb (s .c .rank) (s .c .cell) (omega (arith, c .before .before .before .before .before .before .if2 .left)), e, lt-ltb 0 (s .c .cell) (omega (arith, c .before .if4 .left)))
 
 pub bad-aim-spec : {M : Type 1} → statement M
 bad-aim-spec =
