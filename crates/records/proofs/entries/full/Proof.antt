@@ -16,7 +16,7 @@ use Rattle.records.proofs.entries.full.Statement.{statement}
 use Rattle.records.proofs.entries.full.Tie as tie
 
 judge-full-requires : tie.Need-judge-full-requires
-judge-full-requires c κs = search needs
+judge-full-requires c κs = tt
 
 same-length : tie.Need-same-length
 same-length c = search needs
@@ -28,10 +28,10 @@ returns : tie.Need-returns
 returns c = record { answer = c .before .before .judge-full .ensures; accepted = λ h. absurd (c .if1 .taken h); coded = λ h. absurd (c .if1 .taken h); refused = λ h. record { words = refl; marks = refl; aims = refl; words2 = refl; marks2 = refl; aims2 = refl }; unlogged = λ h. (refl, refl) }
 
 runs-of-requires : tie.Need-runs-of-requires
-runs-of-requires c κs = search needs
+runs-of-requires c κs = tt
 
 write-codes-requires : tie.Need-write-codes-requires
-write-codes-requires c κs = search needs
+write-codes-requires c κs = tt
 
 sub-perform : tie.Need-sub-perform
 sub-perform c = omega (arith, side-known (c .before .before .before .before .before .before .before .before .before .before .before .before .before .before .before .before .before .before .args .side) ((full-known (c .before .before .before .before .before .before .before .before .before .before .before .before .before .before .before .before .before .before .args .back) (c .before .before .before .before .before .before .before .before .before .before .before .before .before .before .before .before .before .before .args .side) (length (c .before .before .before .before .before .before .before .before .before .before .before .before .before .before .before .before .before .before .args .words .now)) (length (c .before .before .before .before .before .before .before .before .before .before .before .before .before .before .before .before .before .before .args .marks .now)) (length (c .before .before .before .before .before .before .before .before .before .before .before .before .before .before .before .before .before .before .args .aims .now)) (length (c .before .before .before .before .before .before .before .before .before .before .before .before .before .before .before .before .before .before .args .spare-words .now)) (length (c .before .before .before .before .before .before .before .before .before .before .before .before .before .before .before .before .before .before .args .spare-marks .now)) (length (c .before .before .before .before .before .before .before .before .before .before .before .before .before .before .before .before .before .before .args .spare-aims .now)) (length (c .before .before .before .before .before .before .before .before .before .before .before .before .before .before .before .before .before .before .args .codes .now)) (length (c .before .before .before .before .before .before .before .before .before .before .before .before .before .before .before .before .before .before .args .moved .now)) (c .before .before .before .before .before .before .before .before .before .before .before .before .before .before .before .before .before .before .args .marks .now) (c .before .before .before .before .before .before .before .before .before .before .before .before .before .before .before .before .before .before .args .aims .now) (acceptedBy (runsOf (c .before .before .before .before .before .before .before .before .before .before .before .before .before .before .before .before .before .before .args .back) (c .before .before .before .before .before .before .before .before .before .before .before .before .before .before .before .before .before .before .args .side))) (c .before .before .before .before .before .before .before .judge-full .ensures) (c .before .before .before .before .before .if1 .left)) .fits .side))
@@ -46,28 +46,28 @@ perform-requires : tie.Need-perform-requires
 perform-requires c κs = let k = (full-known (c .before .before .before .before .before .before .before .before .before .before .before .before .before .before .before .before .before .before .before .before .before .before .before .before .before .args .back) (c .before .before .before .before .before .before .before .before .before .before .before .before .before .before .before .before .before .before .before .before .before .before .before .before .before .args .side) (length (c .before .before .before .before .before .before .before .before .before .before .before .before .before .before .before .before .before .before .before .before .before .before .before .before .before .args .words .now)) (length (c .before .before .before .before .before .before .before .before .before .before .before .before .before .before .before .before .before .before .before .before .before .before .before .before .before .args .marks .now)) (length (c .before .before .before .before .before .before .before .before .before .before .before .before .before .before .before .before .before .before .before .before .before .before .before .before .before .args .aims .now)) (length (c .before .before .before .before .before .before .before .before .before .before .before .before .before .before .before .before .before .before .before .before .before .before .before .before .before .args .spare-words .now)) (length (c .before .before .before .before .before .before .before .before .before .before .before .before .before .before .before .before .before .before .before .before .before .before .before .before .before .args .spare-marks .now)) (length (c .before .before .before .before .before .before .before .before .before .before .before .before .before .before .before .before .before .before .before .before .before .before .before .before .before .args .spare-aims .now)) (length (c .before .before .before .before .before .before .before .before .before .before .before .before .before .before .before .before .before .before .before .before .before .before .before .before .before .args .codes .now)) (length (c .before .before .before .before .before .before .before .before .before .before .before .before .before .before .before .before .before .before .before .before .before .before .before .before .before .args .moved .now)) (c .before .before .before .before .before .before .before .before .before .before .before .before .before .before .before .before .before .before .before .before .before .before .before .before .before .args .marks .now) (c .before .before .before .before .before .before .before .before .before .before .before .before .before .before .before .before .before .before .before .before .before .before .before .before .before .args .aims .now) (acceptedBy (runsOf (c .before .before .before .before .before .before .before .before .before .before .before .before .before .before .before .before .before .before .before .before .before .before .before .before .before .args .back) (c .before .before .before .before .before .before .before .before .before .before .before .before .before .before .before .before .before .before .before .before .before .before .before .before .before .args .side))) (c .before .before .before .before .before .before .before .before .before .before .before .before .before .before .judge-full .ensures) (c .before .before .before .before .before .before .before .before .before .before .before .before .if1 .left)) in (k .fits .side, (fitting-sized (k .fits), (omega arith, k .good)))
 
 same-length-3 : tie.Need-same-length-3
-same-length-3 c = search needs
+same-length-3 c = c .before .before .before .before .before .before .before .before .before .before .before .before .before .before .perform .kept .1 .1 .1 .0
 
 same-length-4 : tie.Need-same-length-4
-same-length-4 c = search needs
+same-length-4 c = c .before .before .before .before .before .before .before .before .before .before .before .before .before .before .perform .kept .1 .1 .1 .1 .0
 
 same-length-5 : tie.Need-same-length-5
-same-length-5 c = search needs
+same-length-5 c = c .before .before .before .before .before .before .before .before .before .before .before .before .before .before .perform .kept .1 .1 .1 .1 .1 .0
 
 same-length-6 : tie.Need-same-length-6
-same-length-6 c = search needs
+same-length-6 c = c .before .before .before .before .before .before .before .before .before .before .before .before .before .before .perform .kept .1 .1 .1 .1 .1 .1 .0
 
 same-length-7 : tie.Need-same-length-7
-same-length-7 c = search needs
+same-length-7 c = c .before .before .before .before .before .before .before .before .before .before .before .before .before .before .perform .kept .1 .1 .1 .1 .1 .1 .1 .0
 
 same-length-8 : tie.Need-same-length-8
-same-length-8 c = search needs
+same-length-8 c = c .before .before .before .before .before .before .before .before .before .before .before .before .before .before .perform .kept .1 .1 .1 .1 .1 .1 .1 .1 .0
 
 same-length-9 : tie.Need-same-length-9
-same-length-9 c = search needs
+same-length-9 c = c .before .before .before .before .before .before .before .before .before .before .before .before .before .before .before .before .before .before .before .before .before .before .before .before .write-codes .kept .1 .0
 
 same-length-10 : tie.Need-same-length-10
-same-length-10 c = search needs
+same-length-10 c = c .before .before .before .before .before .before .before .before .before .before .before .before .before .before .perform .kept .1 .1 .1 .1 .1 .1 .1 .1 .1 .0
 
 returns-2 : tie.Need-returns-2
 returns-2 c = record { answer = c .before .before .before .before .before .before .before .before .before .before .before .before .before .before .before .before .before .before .before .before .before .before .before .before .before .before .before .before .before .judge-full .ensures; accepted = λ h. c .before .before .before .before .before .before .before .before .before .before .before .before .before .before .perform .ensures; coded = λ h. c .before .before .before .before .before .before .before .before .before .before .before .before .before .before .before .before .before .before .before .before .before .before .before .before .write-codes .ensures ∙ ap (λ (rs : List Run). sets (c .before .before .before .before .before .before .before .before .before .before .before .before .before .before .before .before .before .before .before .before .before .before .before .before .before .before .before .before .before .before .before .before .before .before .before .before .before .before .before .before .args .codes .now) 0 (codesOf rs)) (c .before .before .before .before .before .before .before .before .before .before .before .before .before .before .before .before .before .before .before .before .before .before .before .before .before .before .runs-of .ensures); refused = λ h. absurd (h (c .before .before .before .before .before .before .before .before .before .before .before .before .before .before .before .before .before .before .before .before .before .before .before .before .before .before .before .if1 .left)); unlogged = λ h. absurd (h (c .before .before .before .before .before .before .before .before .before .before .before .before .before .before .before .before .before .before .before .before .before .before .before .before .before .before .before .if1 .left)) }
