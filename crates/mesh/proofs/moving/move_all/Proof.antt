@@ -20,7 +20,7 @@ abbrev μ-loop : tie.MeasureT-loop
 μ-loop t words₀ marks₀ aims₀ spare-words₀ spare-marks₀ spare-aims₀ groups share limits moved₀ base₀ g₀ words marks aims spare-words spare-marks spare-aims moved base g = groups - g
 
 are-lanes-requires : tie.Need-are-lanes-requires Inv-loop μ-loop
-are-lanes-requires c κs = search needs
+are-lanes-requires c κs = tt
 
 returns : tie.Need-returns Inv-loop μ-loop
 returns c = let e = sym (c .before .are-lanes .ensures) ∙ not-true _ (c .if1 .taken) in record { moved = λ h. absurd (never h e); kept = λ h j. refl; none = λ h. refl }
@@ -68,22 +68,22 @@ loop-again c = let s = c .before .before .before .before .before .before .before
     (omega (arith, c .before .before .before .before .before .before .before .before .before .before .before .before .before .before .before .before .before .before .before .before .loop-test .taken), l .inv .1, record { side = l .inv .2 .side; sized = omega (arith, l .inv .2 .sized, c .before .before .before .before .before .before .before .before .before .before .before .before .move-part .kept) }, rw (l .inv .1) (ranged-step (side-known (s .args .t .side) (l .inv .2 .side) .least) (omega (arith, c .before .before .before .before .before .before .before .before .before .before .before .before .before .before .before .before .before .before .before .before .loop-test .taken, l .inv .1)) (l .inv .3) (c .before .before .before .before .before .before .before .before .before .before .before .before .move-part .ensures)))
 
 same-length : tie.Need-same-length Inv-loop μ-loop
-same-length c = omega (arith, c .before .loop .inv .2 .sized, lanes-known (c .before .before .before .before .before .before .before .before .before .before .before .before .before .args .t .side) (c .before .before .before .before .before .before .before .before .before .before .before .before .before .args .words .now) (c .before .before .before .before .before .before .before .before .before .before .before .before .before .args .marks .now) (c .before .before .before .before .before .before .before .before .before .before .before .before .before .args .aims .now) (c .before .before .before .before .before .before .before .before .before .before .before .before .before .args .spare-words .now) (c .before .before .before .before .before .before .before .before .before .before .before .before .before .args .spare-marks .now) (c .before .before .before .before .before .before .before .before .before .before .before .before .before .args .spare-aims .now) (sym (c .before .before .before .before .before .before .are-lanes .ensures) ∙ not-false _ (c .before .before .before .before .before .if1 .left)) .sized)
+same-length c = let s = c .before .before .before .before .before .before .before .before .before .before .before .before .before .args in c .before .loop .inv .2 .sized .words ∙ sym (lanes-known (s .t .side) (s .words .now) (s .marks .now) (s .aims .now) (s .spare-words .now) (s .spare-marks .now) (s .spare-aims .now) (sym (c .before .before .before .before .before .before .are-lanes .ensures) ∙ not-false _ (c .before .before .before .before .before .if1 .left)) .sized .words)
 
 same-length-2 : tie.Need-same-length-2 Inv-loop μ-loop
-same-length-2 c = omega (arith, c .before .loop .inv .2 .sized, lanes-known (c .before .before .before .before .before .before .before .before .before .before .before .before .before .args .t .side) (c .before .before .before .before .before .before .before .before .before .before .before .before .before .args .words .now) (c .before .before .before .before .before .before .before .before .before .before .before .before .before .args .marks .now) (c .before .before .before .before .before .before .before .before .before .before .before .before .before .args .aims .now) (c .before .before .before .before .before .before .before .before .before .before .before .before .before .args .spare-words .now) (c .before .before .before .before .before .before .before .before .before .before .before .before .before .args .spare-marks .now) (c .before .before .before .before .before .before .before .before .before .before .before .before .before .args .spare-aims .now) (sym (c .before .before .before .before .before .before .are-lanes .ensures) ∙ not-false _ (c .before .before .before .before .before .if1 .left)) .sized)
+same-length-2 c = let s = c .before .before .before .before .before .before .before .before .before .before .before .before .before .args in c .before .loop .inv .2 .sized .marks ∙ sym (lanes-known (s .t .side) (s .words .now) (s .marks .now) (s .aims .now) (s .spare-words .now) (s .spare-marks .now) (s .spare-aims .now) (sym (c .before .before .before .before .before .before .are-lanes .ensures) ∙ not-false _ (c .before .before .before .before .before .if1 .left)) .sized .marks)
 
 same-length-3 : tie.Need-same-length-3 Inv-loop μ-loop
-same-length-3 c = omega (arith, c .before .loop .inv .2 .sized, lanes-known (c .before .before .before .before .before .before .before .before .before .before .before .before .before .args .t .side) (c .before .before .before .before .before .before .before .before .before .before .before .before .before .args .words .now) (c .before .before .before .before .before .before .before .before .before .before .before .before .before .args .marks .now) (c .before .before .before .before .before .before .before .before .before .before .before .before .before .args .aims .now) (c .before .before .before .before .before .before .before .before .before .before .before .before .before .args .spare-words .now) (c .before .before .before .before .before .before .before .before .before .before .before .before .before .args .spare-marks .now) (c .before .before .before .before .before .before .before .before .before .before .before .before .before .args .spare-aims .now) (sym (c .before .before .before .before .before .before .are-lanes .ensures) ∙ not-false _ (c .before .before .before .before .before .if1 .left)) .sized)
+same-length-3 c = let s = c .before .before .before .before .before .before .before .before .before .before .before .before .before .args in c .before .loop .inv .2 .sized .aims ∙ sym (lanes-known (s .t .side) (s .words .now) (s .marks .now) (s .aims .now) (s .spare-words .now) (s .spare-marks .now) (s .spare-aims .now) (sym (c .before .before .before .before .before .before .are-lanes .ensures) ∙ not-false _ (c .before .before .before .before .before .if1 .left)) .sized .aims)
 
 same-length-4 : tie.Need-same-length-4 Inv-loop μ-loop
-same-length-4 c = omega (arith, c .before .loop .inv .2 .sized, lanes-known (c .before .before .before .before .before .before .before .before .before .before .before .before .before .args .t .side) (c .before .before .before .before .before .before .before .before .before .before .before .before .before .args .words .now) (c .before .before .before .before .before .before .before .before .before .before .before .before .before .args .marks .now) (c .before .before .before .before .before .before .before .before .before .before .before .before .before .args .aims .now) (c .before .before .before .before .before .before .before .before .before .before .before .before .before .args .spare-words .now) (c .before .before .before .before .before .before .before .before .before .before .before .before .before .args .spare-marks .now) (c .before .before .before .before .before .before .before .before .before .before .before .before .before .args .spare-aims .now) (sym (c .before .before .before .before .before .before .are-lanes .ensures) ∙ not-false _ (c .before .before .before .before .before .if1 .left)) .sized)
+same-length-4 c = let s = c .before .before .before .before .before .before .before .before .before .before .before .before .before .args in c .before .loop .inv .2 .sized .words2 ∙ sym (lanes-known (s .t .side) (s .words .now) (s .marks .now) (s .aims .now) (s .spare-words .now) (s .spare-marks .now) (s .spare-aims .now) (sym (c .before .before .before .before .before .before .are-lanes .ensures) ∙ not-false _ (c .before .before .before .before .before .if1 .left)) .sized .words2)
 
 same-length-5 : tie.Need-same-length-5 Inv-loop μ-loop
-same-length-5 c = omega (arith, c .before .loop .inv .2 .sized, lanes-known (c .before .before .before .before .before .before .before .before .before .before .before .before .before .args .t .side) (c .before .before .before .before .before .before .before .before .before .before .before .before .before .args .words .now) (c .before .before .before .before .before .before .before .before .before .before .before .before .before .args .marks .now) (c .before .before .before .before .before .before .before .before .before .before .before .before .before .args .aims .now) (c .before .before .before .before .before .before .before .before .before .before .before .before .before .args .spare-words .now) (c .before .before .before .before .before .before .before .before .before .before .before .before .before .args .spare-marks .now) (c .before .before .before .before .before .before .before .before .before .before .before .before .before .args .spare-aims .now) (sym (c .before .before .before .before .before .before .are-lanes .ensures) ∙ not-false _ (c .before .before .before .before .before .if1 .left)) .sized)
+same-length-5 c = let s = c .before .before .before .before .before .before .before .before .before .before .before .before .before .args in c .before .loop .inv .2 .sized .marks2 ∙ sym (lanes-known (s .t .side) (s .words .now) (s .marks .now) (s .aims .now) (s .spare-words .now) (s .spare-marks .now) (s .spare-aims .now) (sym (c .before .before .before .before .before .before .are-lanes .ensures) ∙ not-false _ (c .before .before .before .before .before .if1 .left)) .sized .marks2)
 
 same-length-6 : tie.Need-same-length-6 Inv-loop μ-loop
-same-length-6 c = omega (arith, c .before .loop .inv .2 .sized, lanes-known (c .before .before .before .before .before .before .before .before .before .before .before .before .before .args .t .side) (c .before .before .before .before .before .before .before .before .before .before .before .before .before .args .words .now) (c .before .before .before .before .before .before .before .before .before .before .before .before .before .args .marks .now) (c .before .before .before .before .before .before .before .before .before .before .before .before .before .args .aims .now) (c .before .before .before .before .before .before .before .before .before .before .before .before .before .args .spare-words .now) (c .before .before .before .before .before .before .before .before .before .before .before .before .before .args .spare-marks .now) (c .before .before .before .before .before .before .before .before .before .before .before .before .before .args .spare-aims .now) (sym (c .before .before .before .before .before .before .are-lanes .ensures) ∙ not-false _ (c .before .before .before .before .before .if1 .left)) .sized)
+same-length-6 c = let s = c .before .before .before .before .before .before .before .before .before .before .before .before .before .args in c .before .loop .inv .2 .sized .aims2 ∙ sym (lanes-known (s .t .side) (s .words .now) (s .marks .now) (s .aims .now) (s .spare-words .now) (s .spare-marks .now) (s .spare-aims .now) (sym (c .before .before .before .before .before .before .are-lanes .ensures) ∙ not-false _ (c .before .before .before .before .before .if1 .left)) .sized .aims2)
 
 returns-2 : tie.Need-returns-2 Inv-loop μ-loop
 returns-2 c = let e = sym (c .before .before .before .before .before .before .are-lanes .ensures) ∙ not-false _ (c .before .before .before .before .before .if1 .left) in record { moved = λ h. ranged-end (omega (arith, c .before .loop .inv .0, c .before .loop .inv .1, c .loop-test .left)) (c .before .loop .inv .3); kept = λ h. absurd (never e h); none = λ h. absurd (never e h) }
