@@ -12,7 +12,7 @@ use Rattle.mesh.proofs.Parts.{part-sized, part-moved}
 use Rattle.mesh.proofs.moving.move_part.Statement.{statement}
 use Rattle.mesh.proofs.moving.move_part.Tie as tie
 
-few : {n : ℕ} → n ≤ 4096 → Fits w64 n
+few : {n : ℕ} → n ≤ 65536 → Fits w64 n
 few h = omega (arith, h)
 
 from : (b n : ℕ) → b ≤ b + n
@@ -22,28 +22,28 @@ upto : {e k l : ℕ} → e ≤ k → l ≡ k → e ≤ l
 upto h q = omega (arith, h, q)
 
 mul-end : tie.Need-mul-end
-mul-end c = few (omega (arith, side-known (c .before .before .before .before .before .before .before .before .args .t .side) (c .before .before .before .before .before .before .before .before .pre .0 .side) .groups-few))
+mul-end c = let k = side-known (c .before .before .before .before .before .before .before .before .args .t .side) (c .before .before .before .before .before .before .before .before .pre .0 .side) in few (omega (arith, k .groups-few, k .most))
 
 add-end : tie.Need-add-end
-add-end c = few (omega (arith, c .before .before .before .before .before .before .before .before .pre .1 .0, side-known (c .before .before .before .before .before .before .before .before .args .t .side) (c .before .before .before .before .before .before .before .before .pre .0 .side) .cells-few))
+add-end c = let k = side-known (c .before .before .before .before .before .before .before .before .args .t .side) (c .before .before .before .before .before .before .before .before .pre .0 .side) in few (omega (arith, c .before .before .before .before .before .before .before .before .pre .1 .0, k .cells-few, k .groups-few, k .most))
 
 mul-move-group : tie.Need-mul-move-group
 mul-move-group c = omega (arith, c .before .before .before .before .before .before .before .before .pre .1 .0, side-known (c .before .before .before .before .before .before .before .before .args .t .side) (c .before .before .before .before .before .before .before .before .pre .0 .side) .cells-few)
 
 sub-move-group : tie.Need-sub-move-group
-sub-move-group c = from (c .before .before .before .before .before .before .before .before .args .base) (groups (c .before .before .before .before .before .before .before .before .args .t .side))
+sub-move-group c = from (c .before .before .before .before .before .before .before .before .args .base) _
 
 part-move-group-start : tie.Need-part-move-group-start
-part-move-group-start c = from (c .before .before .before .before .before .before .before .before .args .base) (groups (c .before .before .before .before .before .before .before .before .args .t .side))
+part-move-group-start c = from (c .before .before .before .before .before .before .before .before .args .base) _
 
 part-move-group-end : tie.Need-part-move-group-end
 part-move-group-end c = upto (c .before .before .before .before .before .before .before .before .pre .1 .0) (c .before .before .before .before .before .before .before .before .pre .1 .1 .1 .words)
 
 sub-move-group-2 : tie.Need-sub-move-group-2
-sub-move-group-2 c = from (c .before .before .before .before .before .before .before .before .before .args .base) (groups (c .before .before .before .before .before .before .before .before .before .args .t .side))
+sub-move-group-2 c = from (c .before .before .before .before .before .before .before .before .before .args .base) _
 
 part-move-group-start-2 : tie.Need-part-move-group-start-2
-part-move-group-start-2 c = from (c .before .before .before .before .before .before .before .before .before .args .base) (groups (c .before .before .before .before .before .before .before .before .before .args .t .side))
+part-move-group-start-2 c = from (c .before .before .before .before .before .before .before .before .before .args .base) _
 
 part-move-group-end-2 : tie.Need-part-move-group-end-2
 part-move-group-end-2 c = upto (c .before .before .before .before .before .before .before .before .before .pre .1 .0) (c .before .before .before .before .before .before .before .before .before .pre .1 .1 .1 .marks)
@@ -52,10 +52,10 @@ mul-move-group-2 : tie.Need-mul-move-group-2
 mul-move-group-2 c = omega (arith, c .before .before .before .before .before .before .before .before .before .before .pre .1 .0, side-known (c .before .before .before .before .before .before .before .before .before .before .args .t .side) (c .before .before .before .before .before .before .before .before .before .before .pre .0 .side) .cells-few)
 
 sub-move-group-3 : tie.Need-sub-move-group-3
-sub-move-group-3 c = from (c .before .before .before .before .before .before .before .before .before .before .args .base) (groups (c .before .before .before .before .before .before .before .before .before .before .args .t .side))
+sub-move-group-3 c = from (c .before .before .before .before .before .before .before .before .before .before .args .base) _
 
 part-move-group-start-3 : tie.Need-part-move-group-start-3
-part-move-group-start-3 c = from (c .before .before .before .before .before .before .before .before .before .before .args .base) (groups (c .before .before .before .before .before .before .before .before .before .before .args .t .side))
+part-move-group-start-3 c = from (c .before .before .before .before .before .before .before .before .before .before .args .base) _
 
 part-move-group-end-3 : tie.Need-part-move-group-end-3
 part-move-group-end-3 c = upto (c .before .before .before .before .before .before .before .before .before .before .pre .1 .0) (c .before .before .before .before .before .before .before .before .before .before .pre .1 .1 .1 .aims)
@@ -64,19 +64,19 @@ mul-move-group-3 : tie.Need-mul-move-group-3
 mul-move-group-3 c = omega (arith, c .before .before .before .before .before .before .before .before .before .before .before .pre .1 .0, side-known (c .before .before .before .before .before .before .before .before .before .before .before .args .t .side) (c .before .before .before .before .before .before .before .before .before .before .before .pre .0 .side) .cells-few)
 
 sub-move-group-4 : tie.Need-sub-move-group-4
-sub-move-group-4 c = from (c .before .before .before .before .before .before .before .before .before .before .before .args .base) (groups (c .before .before .before .before .before .before .before .before .before .before .before .args .t .side))
+sub-move-group-4 c = from (c .before .before .before .before .before .before .before .before .before .before .before .args .base) _
 
 part-move-group-start-4 : tie.Need-part-move-group-start-4
-part-move-group-start-4 c = from (c .before .before .before .before .before .before .before .before .before .before .before .args .base) (groups (c .before .before .before .before .before .before .before .before .before .before .before .args .t .side))
+part-move-group-start-4 c = from (c .before .before .before .before .before .before .before .before .before .before .before .args .base) _
 
 part-move-group-end-4 : tie.Need-part-move-group-end-4
 part-move-group-end-4 c = upto (c .before .before .before .before .before .before .before .before .before .before .before .pre .1 .0) (c .before .before .before .before .before .before .before .before .before .before .before .pre .1 .1 .1 .words2)
 
 sub-move-group-5 : tie.Need-sub-move-group-5
-sub-move-group-5 c = from (c .before .before .before .before .before .before .before .before .before .before .before .before .args .base) (groups (c .before .before .before .before .before .before .before .before .before .before .before .before .args .t .side))
+sub-move-group-5 c = from (c .before .before .before .before .before .before .before .before .before .before .before .before .args .base) _
 
 part-move-group-start-5 : tie.Need-part-move-group-start-5
-part-move-group-start-5 c = from (c .before .before .before .before .before .before .before .before .before .before .before .before .args .base) (groups (c .before .before .before .before .before .before .before .before .before .before .before .before .args .t .side))
+part-move-group-start-5 c = from (c .before .before .before .before .before .before .before .before .before .before .before .before .args .base) _
 
 part-move-group-end-5 : tie.Need-part-move-group-end-5
 part-move-group-end-5 c = upto (c .before .before .before .before .before .before .before .before .before .before .before .before .pre .1 .0) (c .before .before .before .before .before .before .before .before .before .before .before .before .pre .1 .1 .1 .marks2)
@@ -85,10 +85,10 @@ mul-move-group-4 : tie.Need-mul-move-group-4
 mul-move-group-4 c = omega (arith, c .before .before .before .before .before .before .before .before .before .before .before .before .before .pre .1 .0, side-known (c .before .before .before .before .before .before .before .before .before .before .before .before .before .args .t .side) (c .before .before .before .before .before .before .before .before .before .before .before .before .before .pre .0 .side) .cells-few)
 
 sub-move-group-6 : tie.Need-sub-move-group-6
-sub-move-group-6 c = from (c .before .before .before .before .before .before .before .before .before .before .before .before .before .args .base) (groups (c .before .before .before .before .before .before .before .before .before .before .before .before .before .args .t .side))
+sub-move-group-6 c = from (c .before .before .before .before .before .before .before .before .before .before .before .before .before .args .base) _
 
 part-move-group-start-6 : tie.Need-part-move-group-start-6
-part-move-group-start-6 c = from (c .before .before .before .before .before .before .before .before .before .before .before .before .before .args .base) (groups (c .before .before .before .before .before .before .before .before .before .before .before .before .before .args .t .side))
+part-move-group-start-6 c = from (c .before .before .before .before .before .before .before .before .before .before .before .before .before .args .base) _
 
 part-move-group-end-6 : tie.Need-part-move-group-end-6
 part-move-group-end-6 c = upto (c .before .before .before .before .before .before .before .before .before .before .before .before .before .pre .1 .0) (c .before .before .before .before .before .before .before .before .before .before .before .before .before .pre .1 .1 .1 .aims2)
