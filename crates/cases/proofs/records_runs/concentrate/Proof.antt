@@ -27,34 +27,34 @@ slice-aggregate-concentrate-3 : tie.Need-slice-aggregate-concentrate-3
 slice-aggregate-concentrate-3 c = sym (length-take-le _ _ (search needs))
 
 array-borrow-prefix-spare-words : tie.Need-array-borrow-prefix-spare-words
-array-borrow-prefix-spare-words c = search needs
+array-borrow-prefix-spare-words c = c .before .before .before .cells .ensures
 
 slice-aggregate-concentrate-4 : tie.Need-slice-aggregate-concentrate-4
-slice-aggregate-concentrate-4 c = sym (length-take-le _ _ (search needs))
+slice-aggregate-concentrate-4 c = sym (length-take-le _ _ (c .before .before .before .before .cells .ensures))
 
 array-borrow-prefix-spare-marks : tie.Need-array-borrow-prefix-spare-marks
-array-borrow-prefix-spare-marks c = search needs
+array-borrow-prefix-spare-marks c = c .before .before .before .before .cells .ensures
 
 slice-aggregate-concentrate-5 : tie.Need-slice-aggregate-concentrate-5
-slice-aggregate-concentrate-5 c = sym (length-take-le _ _ (search needs))
+slice-aggregate-concentrate-5 c = sym (length-take-le _ _ (c .before .before .before .before .before .cells .ensures))
 
 array-borrow-prefix-spare-aims : tie.Need-array-borrow-prefix-spare-aims
-array-borrow-prefix-spare-aims c = search needs
+array-borrow-prefix-spare-aims c = c .before .before .before .before .before .cells .ensures
 
 slice-aggregate-concentrate-6 : tie.Need-slice-aggregate-concentrate-6
-slice-aggregate-concentrate-6 c = sym (length-take-le _ _ (search needs))
+slice-aggregate-concentrate-6 c = sym (length-take-le _ _ (c .before .before .before .before .before .before .cells .ensures))
 
 array-borrow-prefix-codes : tie.Need-array-borrow-prefix-codes
-array-borrow-prefix-codes c = search needs
+array-borrow-prefix-codes c = c .before .before .before .before .before .before .before .pre
 
 slice-aggregate-concentrate-7 : tie.Need-slice-aggregate-concentrate-7
-slice-aggregate-concentrate-7 c = sym (length-take-le _ _ (search needs))
+slice-aggregate-concentrate-7 c = sym (length-take-le _ _ (c .before .before .before .before .before .before .before .before .pre))
 
 array-borrow-prefix-moved : tie.Need-array-borrow-prefix-moved
-array-borrow-prefix-moved c = search needs
+array-borrow-prefix-moved c = c .before .before .before .before .before .before .before .before .pre
 
 slice-aggregate-concentrate-8 : tie.Need-slice-aggregate-concentrate-8
-slice-aggregate-concentrate-8 c = sym (length-take-le _ _ (search needs))
+slice-aggregate-concentrate-8 c = sym (length-take-le _ _ (c .before .before .before .before .before .before .before .before .before .pre))
 
 concentrate-requires : tie.Need-concentrate-requires
 concentrate-requires c κs = search needs

@@ -27,22 +27,22 @@ slice-aggregate-distribute-cut-3 : tie.Need-slice-aggregate-distribute-cut-3
 slice-aggregate-distribute-cut-3 c = sym (length-take-le _ _ (search needs))
 
 array-borrow-prefix-spare-words : tie.Need-array-borrow-prefix-spare-words
-array-borrow-prefix-spare-words c = search needs
+array-borrow-prefix-spare-words c = c .before .before .before .cells .ensures
 
 slice-aggregate-distribute-cut-4 : tie.Need-slice-aggregate-distribute-cut-4
-slice-aggregate-distribute-cut-4 c = sym (length-take-le _ _ (search needs))
+slice-aggregate-distribute-cut-4 c = sym (length-take-le _ _ (c .before .before .before .before .cells .ensures))
 
 array-borrow-prefix-spare-marks : tie.Need-array-borrow-prefix-spare-marks
-array-borrow-prefix-spare-marks c = search needs
+array-borrow-prefix-spare-marks c = c .before .before .before .before .cells .ensures
 
 slice-aggregate-distribute-cut-5 : tie.Need-slice-aggregate-distribute-cut-5
-slice-aggregate-distribute-cut-5 c = sym (length-take-le _ _ (search needs))
+slice-aggregate-distribute-cut-5 c = sym (length-take-le _ _ (c .before .before .before .before .before .cells .ensures))
 
 array-borrow-prefix-spare-aims : tie.Need-array-borrow-prefix-spare-aims
-array-borrow-prefix-spare-aims c = search needs
+array-borrow-prefix-spare-aims c = c .before .before .before .before .before .cells .ensures
 
 slice-aggregate-distribute-cut-6 : tie.Need-slice-aggregate-distribute-cut-6
-slice-aggregate-distribute-cut-6 c = sym (length-take-le _ _ (search needs))
+slice-aggregate-distribute-cut-6 c = sym (length-take-le _ _ (c .before .before .before .before .before .before .cells .ensures))
 
 distribute-cut-requires : tie.Need-distribute-cut-requires
 distribute-cut-requires c κs = search needs
