@@ -48,9 +48,7 @@ fn state(
     spare_words: [u32; 256],
     spare_marks: [u8; 256],
     spare_aims: [u16; 256],
-)
-    requires { ⌜ n ≤ 256 ⌝ }
-{
+) {
     let mut i: usize = 0;
     while i < n {
         line(

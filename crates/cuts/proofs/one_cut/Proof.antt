@@ -36,22 +36,22 @@ slice-aggregate-concentrate-cut-3 : tie.Need-slice-aggregate-concentrate-cut-3
 slice-aggregate-concentrate-cut-3 c = sym (length-take-le _ _ (search needs))
 
 array-borrow-prefix-spare-words : tie.Need-array-borrow-prefix-spare-words
-array-borrow-prefix-spare-words c = search needs
+array-borrow-prefix-spare-words c = c .before .before .before .before .before .before .cells .ensures
 
 slice-aggregate-concentrate-cut-4 : tie.Need-slice-aggregate-concentrate-cut-4
-slice-aggregate-concentrate-cut-4 c = sym (length-take-le _ _ (search needs))
+slice-aggregate-concentrate-cut-4 c = sym (length-take-le _ _ (c .before .before .before .before .before .before .before .cells .ensures))
 
 array-borrow-prefix-spare-marks : tie.Need-array-borrow-prefix-spare-marks
-array-borrow-prefix-spare-marks c = search needs
+array-borrow-prefix-spare-marks c = c .before .before .before .before .before .before .before .cells .ensures
 
 slice-aggregate-concentrate-cut-5 : tie.Need-slice-aggregate-concentrate-cut-5
-slice-aggregate-concentrate-cut-5 c = sym (length-take-le _ _ (search needs))
+slice-aggregate-concentrate-cut-5 c = sym (length-take-le _ _ (c .before .before .before .before .before .before .before .before .cells .ensures))
 
 array-borrow-prefix-spare-aims : tie.Need-array-borrow-prefix-spare-aims
-array-borrow-prefix-spare-aims c = search needs
+array-borrow-prefix-spare-aims c = c .before .before .before .before .before .before .before .before .cells .ensures
 
 slice-aggregate-concentrate-cut-6 : tie.Need-slice-aggregate-concentrate-cut-6
-slice-aggregate-concentrate-cut-6 c = sym (length-take-le _ _ (search needs))
+slice-aggregate-concentrate-cut-6 c = sym (length-take-le _ _ (c .before .before .before .before .before .before .before .before .before .cells .ensures))
 
 concentrate-cut-requires : tie.Need-concentrate-cut-requires
 concentrate-cut-requires c κs = search needs
