@@ -38,7 +38,7 @@ fn rank_answer(side: usize) {
 fn on_records(side: usize) {
     let words = [5u32; 4096];
     let marks = [1u8; 4096];
-    let aims = ranked(8, marks);
+    let aims = ranked(8, 51, marks);
     named(b"rank\tside", side);
     rank_answer(side);
     named(b"concentrate\tside", side);
@@ -54,7 +54,7 @@ fn on_records(side: usize) {
 pub(crate) fn all_marked() {
     let marks = [1u8; 4096];
     text(b"case\tside 8, all marked\nanswer");
-    records_runs::concentrate(8, 51, true, [5u32; 4096], marks, ranked(8, marks));
+    records_runs::concentrate(8, 51, true, [5u32; 4096], marks, ranked(8, 51, marks));
 }
 
 pub(crate) fn sides() {
@@ -96,7 +96,7 @@ pub(crate) fn distances() {
 pub(crate) fn cuts() {
     let words = [5u32; 4096];
     let marks = [1u8; 4096];
-    let aims = ranked(8, marks);
+    let aims = ranked(8, 51, marks);
     named(b"concentrate cut\tcut", 51);
     records_runs::concentrate_cut(8, 51, words, marks, aims);
     named(b"concentrate cut\tcut", 52);

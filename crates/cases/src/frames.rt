@@ -27,11 +27,13 @@ pub(crate) fn marked(a: usize, b: usize, c: usize) -> [u8; 4096]
     marks
 }
 
-// The aims that rank gives.
-pub(crate) fn ranked(side: usize, marks: [u8; 4096]) -> [u16; 4096] {
+// The aims that rank gives, with a log of so many moves.
+pub(crate) fn ranked(side: usize, moves: usize, marks: [u8; 4096]) -> [u16; 4096]
+    requires { ⌜ moves ≤ 4096 ⌝ }
+{
     let n = cells(side);
     let mut aims = [9u16; 4096];
-    let mut codes = [9u8; 51];
-    rank(side, &marks[..n], &mut aims[..n], &mut codes);
+    let mut codes = [9u8; 4096];
+    rank(side, &marks[..n], &mut aims[..n], &mut codes[..moves]);
     aims
 }

@@ -10,7 +10,7 @@ ghost use Prim.Native.Nat.{_≤_};
 fn concentrated(side: usize, moves: usize, words: [u32; 4096], marks: [u8; 4096])
     requires { ⌜ moves ≤ 4096 ⌝ }
 {
-    let aims = ranked(side, marks);
+    let aims = ranked(side, moves, marks);
     text(b"after move 1\nanswer");
     records_runs::concentrate_cut(side, 1, words, marks, aims);
     text(b"after all moves\nanswer");

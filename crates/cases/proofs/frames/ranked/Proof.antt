@@ -20,8 +20,11 @@ array-borrow-prefix-aims c = search needs
 slice-aggregate-rank-2 : tie.Need-slice-aggregate-rank-2
 slice-aggregate-rank-2 c = sym (length-take-le _ _ (search needs))
 
+array-borrow-prefix-codes : tie.Need-array-borrow-prefix-codes
+array-borrow-prefix-codes c = search needs
+
 slice-aggregate-rank-3 : tie.Need-slice-aggregate-rank-3
-slice-aggregate-rank-3 c = search needs
+slice-aggregate-rank-3 c = sym (length-take-le _ _ (search needs))
 
 rank-requires : tie.Need-rank-requires
 rank-requires c κs = search needs
@@ -38,6 +41,7 @@ ranked-spec =
     slice-aggregate-rank
     array-borrow-prefix-aims
     slice-aggregate-rank-2
+    array-borrow-prefix-codes
     slice-aggregate-rank-3
     rank-requires
     returns)
