@@ -2,6 +2,7 @@
 use answers::Answer;
 use libc::STDOUT_FILENO;
 use shifts::distance_of;
+ghost use Prim.Native.Nat.{_≤_};
 
 pub(crate) fn text(name: &[u8]) {
     io::write_all(STDOUT_FILENO, name);
@@ -23,27 +24,17 @@ pub(crate) fn distance(k: i32) {
     }
 }
 
-pub(crate) fn end() {
+fn end() {
     text(b"\n");
 }
 
-pub(crate) fn case_line(name: &[u8]) {
-    text(b"case\t");
-    text(name);
-    end();
-}
-
+// An answer, which ends a line.
 pub(crate) fn values(answer: Answer) {
     value(answer.number as u64);
     value(answer.place as u64);
     value(answer.electronic as u64);
     value(answer.swaps as u64);
     end();
-}
-
-pub(crate) fn answer_line(answer: Answer) {
-    text(b"answer");
-    values(answer);
 }
 
 fn wide_word(word: u32) -> u64 {
@@ -58,31 +49,41 @@ fn wide_byte(byte: u8) -> u64 {
     byte as u64
 }
 
-// A line of a lane of words; of aims or of moved counts; of marks or of codes.
-pub(crate) fn words_line(name: &[u8], words: &[u32]) {
+// No lane is longer than this.
+fn within(n: usize) -> usize
+    ensures { λ r. ⌜ r ≤ 4096 ⌝ }
+{
+    if n < 4096 { n } else { 4096 }
+}
+
+// A line of the first n words of a lane; of aims or of moved counts; of marks or of codes.
+pub(crate) fn words_line(name: &[u8], n: usize, words: [u32; 4096]) {
     text(name);
+    let last = within(n);
     let mut i: usize = 0;
-    while i < words.len() {
+    while i < last {
         value(wide_word(words[i]));
         i += 1;
     }
     end();
 }
 
-pub(crate) fn halves_line(name: &[u8], halves: &[u16]) {
+pub(crate) fn halves_line(name: &[u8], n: usize, halves: [u16; 4096]) {
     text(name);
+    let last = within(n);
     let mut i: usize = 0;
-    while i < halves.len() {
+    while i < last {
         value(wide_half(halves[i]));
         i += 1;
     }
     end();
 }
 
-pub(crate) fn bytes_line(name: &[u8], bytes: &[u8]) {
+pub(crate) fn bytes_line(name: &[u8], n: usize, bytes: [u8; 4096]) {
     text(name);
+    let last = within(n);
     let mut i: usize = 0;
-    while i < bytes.len() {
+    while i < last {
         value(wide_byte(bytes[i]));
         i += 1;
     }

@@ -4,9 +4,7 @@ use io::print_decimal;
 use libc::STDOUT_FILENO;
 use ranking::rank;
 use records::entries::concentrate_cut;
-ghost use mathlib.Core.Path.{_≡_};
 ghost use Prim.Native.Nat.{_≤_};
-ghost use lib.ListN.{length};
 
 fn field(n: u64) {
     print_decimal(STDOUT_FILENO, n);
@@ -28,30 +26,31 @@ fn line(cut: usize, cell: usize, slot: u64, word: u32, mark: u8, aim: u16) {
     }
 }
 
-fn word_at(lane: &[u32], i: usize) -> u32 {
-    if i < lane.len() { lane[i] } else { 0 }
+fn word_at(lane: [u32; 256], i: usize) -> u32 {
+    if i < 256 { lane[i] } else { 0 }
 }
 
-fn mark_at(lane: &[u8], i: usize) -> u8 {
-    if i < lane.len() { lane[i] } else { 0 }
+fn mark_at(lane: [u8; 256], i: usize) -> u8 {
+    if i < 256 { lane[i] } else { 0 }
 }
 
-fn aim_at(lane: &[u16], i: usize) -> u16 {
-    if i < lane.len() { lane[i] } else { 0 }
+fn aim_at(lane: [u16; 256], i: usize) -> u16 {
+    if i < 256 { lane[i] } else { 0 }
 }
 
-// A lane's records, of which the spare ones come after the front ones of the same cell.
+// The records of the first n cells, of which the spare ones come after the front ones of the same cell.
 fn state(
     cut: usize,
-    words: &[u32],
-    marks: &[u8],
-    aims: &[u16],
-    spare_words: &[u32],
-    spare_marks: &[u8],
-    spare_aims: &[u16],
+    n: usize,
+    words: [u32; 256],
+    marks: [u8; 256],
+    aims: [u16; 256],
+    spare_words: [u32; 256],
+    spare_marks: [u8; 256],
+    spare_aims: [u16; 256],
 ) {
     let mut i: usize = 0;
-    while i < words.len() {
+    while i < n {
         line(
             cut,
             i,
@@ -89,100 +88,26 @@ fn word_of(i: usize) -> u32
     1000 + i as u32
 }
 
-fn fill(kind: usize, words: &mut [u32], marks: &mut [u8])
-    requires { ⌜ (kind ≤ 64) × (length (now words) ≤ 256) × (length (now marks) ≡ length (now words)) ⌝ }
-{
+fn words_of() -> [u32; 256] {
+    let mut words = [0u32; 256];
     let mut i: usize = 0;
-    while i < words.len() {
-        let word = word_of(i);
-        let mark = mark_of(kind, i);
-        words[i] = word;
-        marks[i] = mark;
+    while i < 256 {
+        words[i] = word_of(i);
         i += 1;
     }
+    words
 }
 
-// The first moves of concentrate, up to a cut, of records that are ranked first.
-fn ranked_cut(
-    side: usize,
-    cut: usize,
-    words: &mut [u32],
-    marks: &mut [u8],
-    aims: &mut [u16],
-    spare_words: &mut [u32],
-    spare_marks: &mut [u8],
-    spare_aims: &mut [u16],
-) {
-    let mut codes = [0u8; 32];
-    rank(side, &marks[..], aims, &mut codes);
-    concentrate_cut(
-        side,
-        cut,
-        words,
-        marks,
-        aims,
-        spare_words,
-        spare_marks,
-        spare_aims,
-    );
-}
-
-fn show_cut(
-    side: usize,
-    cut: usize,
-    words: &mut [u32],
-    marks: &mut [u8],
-    aims: &mut [u16],
-    spare_words: &mut [u32],
-    spare_marks: &mut [u8],
-    spare_aims: &mut [u16],
-) {
-    ranked_cut(
-        side,
-        cut,
-        words,
-        marks,
-        aims,
-        spare_words,
-        spare_marks,
-        spare_aims,
-    );
-    state(
-        cut,
-        words,
-        marks,
-        aims,
-        spare_words,
-        spare_marks,
-        spare_aims,
-    );
-}
-
-// The state of a frame after a cut, in lanes that are lent for it.
-fn frame_cut(
-    side: usize,
-    kind: usize,
-    cut: usize,
-    words: &mut [u32],
-    marks: &mut [u8],
-    aims: &mut [u16],
-    spare_words: &mut [u32],
-    spare_marks: &mut [u8],
-    spare_aims: &mut [u16],
-)
-    requires { ⌜ (kind ≤ 64) × (length (now words) ≤ 256) × (length (now marks) ≡ length (now words)) ⌝ }
+fn marks_of(kind: usize) -> [u8; 256]
+    requires { ⌜ kind ≤ 64 ⌝ }
 {
-    fill(kind, words, marks);
-    show_cut(
-        side,
-        cut,
-        words,
-        marks,
-        aims,
-        spare_words,
-        spare_marks,
-        spare_aims,
-    );
+    let mut marks = [0u8; 256];
+    let mut i: usize = 0;
+    while i < 256 {
+        marks[i] = mark_of(kind, i);
+        i += 1;
+    }
+    marks
 }
 
 // The number of cells of sides 1 to 4.
@@ -197,19 +122,28 @@ fn cells(side: usize) -> usize
     }
 }
 
+// The aims that rank gives.
+fn ranked(side: usize, marks: [u8; 256]) -> [u16; 256] {
+    let n = cells(side);
+    let mut aims = [0u16; 256];
+    let mut codes = [0u8; 32];
+    rank(side, &marks[..n], &mut aims[..n], &mut codes);
+    aims
+}
+
+// The state of a frame after a cut, in lanes of which a board lends its first cells.
 fn one_cut(side: usize, kind: usize, cut: usize)
     requires { ⌜ kind ≤ 64 ⌝ }
 {
     let n = cells(side);
-    let mut words = [0u32; 256];
-    let mut marks = [0u8; 256];
-    let mut aims = [0u16; 256];
+    let mut words = words_of();
+    let mut marks = marks_of(kind);
+    let mut aims = ranked(side, marks);
     let mut spare_words = [7u32; 256];
     let mut spare_marks = [7u8; 256];
     let mut spare_aims = [7u16; 256];
-    frame_cut(
+    concentrate_cut(
         side,
-        kind,
         cut,
         &mut words[..n],
         &mut marks[..n],
@@ -217,6 +151,16 @@ fn one_cut(side: usize, kind: usize, cut: usize)
         &mut spare_words[..n],
         &mut spare_marks[..n],
         &mut spare_aims[..n],
+    );
+    state(
+        cut,
+        n,
+        words,
+        marks,
+        aims,
+        spare_words,
+        spare_marks,
+        spare_aims,
     );
 }
 

@@ -1,5 +1,5 @@
 -- `cuts::one_cut` is safe: a board of side 4 or less has at most 256 cells.
-use mathlib.Core.Path.{sym, _∙_}
+use mathlib.Core.Path.{sym}
 use lib.Seq.{length-take-le}
 use borrow.Author.Needs.{needs}
 use Rattle.cuts.proofs.one_cut.Statement.{statement}
@@ -8,46 +8,56 @@ use Rattle.cuts.proofs.one_cut.Tie as tie
 cells-requires : tie.Need-cells-requires
 cells-requires c κs = search needs
 
+words-of-requires : tie.Need-words-of-requires
+words-of-requires c κs = search needs
+
+marks-of-requires : tie.Need-marks-of-requires
+marks-of-requires c κs = search needs
+
+ranked-requires : tie.Need-ranked-requires
+ranked-requires c κs = search needs
+
 array-borrow-prefix-words : tie.Need-array-borrow-prefix-words
 array-borrow-prefix-words c = search needs
 
-slice-aggregate-frame-cut : tie.Need-slice-aggregate-frame-cut
-slice-aggregate-frame-cut c = sym (length-take-le _ _ (search needs))
+slice-aggregate-concentrate-cut : tie.Need-slice-aggregate-concentrate-cut
+slice-aggregate-concentrate-cut c = sym (length-take-le _ _ (search needs))
 
 array-borrow-prefix-marks : tie.Need-array-borrow-prefix-marks
 array-borrow-prefix-marks c = search needs
 
-slice-aggregate-frame-cut-2 : tie.Need-slice-aggregate-frame-cut-2
-slice-aggregate-frame-cut-2 c = sym (length-take-le _ _ (search needs))
+slice-aggregate-concentrate-cut-2 : tie.Need-slice-aggregate-concentrate-cut-2
+slice-aggregate-concentrate-cut-2 c = sym (length-take-le _ _ (search needs))
 
 array-borrow-prefix-aims : tie.Need-array-borrow-prefix-aims
 array-borrow-prefix-aims c = search needs
 
-slice-aggregate-frame-cut-3 : tie.Need-slice-aggregate-frame-cut-3
-slice-aggregate-frame-cut-3 c = sym (length-take-le _ _ (search needs))
+slice-aggregate-concentrate-cut-3 : tie.Need-slice-aggregate-concentrate-cut-3
+slice-aggregate-concentrate-cut-3 c = sym (length-take-le _ _ (search needs))
 
 array-borrow-prefix-spare-words : tie.Need-array-borrow-prefix-spare-words
-array-borrow-prefix-spare-words c = search needs
+array-borrow-prefix-spare-words c = c .before .before .before .before .before .before .cells .ensures
 
-slice-aggregate-frame-cut-4 : tie.Need-slice-aggregate-frame-cut-4
-slice-aggregate-frame-cut-4 c = sym (length-take-le _ _ (search needs))
+slice-aggregate-concentrate-cut-4 : tie.Need-slice-aggregate-concentrate-cut-4
+slice-aggregate-concentrate-cut-4 c = sym (length-take-le _ _ (c .before .before .before .before .before .before .before .cells .ensures))
 
 array-borrow-prefix-spare-marks : tie.Need-array-borrow-prefix-spare-marks
-array-borrow-prefix-spare-marks c = search needs
+array-borrow-prefix-spare-marks c = c .before .before .before .before .before .before .before .cells .ensures
 
-slice-aggregate-frame-cut-5 : tie.Need-slice-aggregate-frame-cut-5
-slice-aggregate-frame-cut-5 c = sym (length-take-le _ _ (search needs))
+slice-aggregate-concentrate-cut-5 : tie.Need-slice-aggregate-concentrate-cut-5
+slice-aggregate-concentrate-cut-5 c = sym (length-take-le _ _ (c .before .before .before .before .before .before .before .before .cells .ensures))
 
 array-borrow-prefix-spare-aims : tie.Need-array-borrow-prefix-spare-aims
-array-borrow-prefix-spare-aims c = search needs
+array-borrow-prefix-spare-aims c = c .before .before .before .before .before .before .before .before .cells .ensures
 
-slice-aggregate-frame-cut-6 : tie.Need-slice-aggregate-frame-cut-6
-slice-aggregate-frame-cut-6 c = sym (length-take-le _ _ (search needs))
+slice-aggregate-concentrate-cut-6 : tie.Need-slice-aggregate-concentrate-cut-6
+slice-aggregate-concentrate-cut-6 c = sym (length-take-le _ _ (c .before .before .before .before .before .before .before .before .before .cells .ensures))
 
-frame-cut-requires : tie.Need-frame-cut-requires
-frame-cut-requires c κs =
-    let n = c .before .before .before .before .before .before .cells .ensures in
-    (c .before .before .before .before .before .before .before .pre, rw (length-take-le _ _ n) n, length-take-le _ _ n ∙ sym (length-take-le _ _ n))
+concentrate-cut-requires : tie.Need-concentrate-cut-requires
+concentrate-cut-requires c κs = search needs
+
+state-requires : tie.Need-state-requires
+state-requires c κs = search needs
 
 returns : tie.Need-returns
 returns c = search needs
@@ -57,17 +67,21 @@ one-cut-spec =
     tie.close
     (tie.spec
     cells-requires
+    words-of-requires
+    marks-of-requires
+    ranked-requires
     array-borrow-prefix-words
-    slice-aggregate-frame-cut
+    slice-aggregate-concentrate-cut
     array-borrow-prefix-marks
-    slice-aggregate-frame-cut-2
+    slice-aggregate-concentrate-cut-2
     array-borrow-prefix-aims
-    slice-aggregate-frame-cut-3
+    slice-aggregate-concentrate-cut-3
     array-borrow-prefix-spare-words
-    slice-aggregate-frame-cut-4
+    slice-aggregate-concentrate-cut-4
     array-borrow-prefix-spare-marks
-    slice-aggregate-frame-cut-5
+    slice-aggregate-concentrate-cut-5
     array-borrow-prefix-spare-aims
-    slice-aggregate-frame-cut-6
-    frame-cut-requires
+    slice-aggregate-concentrate-cut-6
+    concentrate-cut-requires
+    state-requires
     returns)

@@ -1,15 +1,14 @@
 -- `cuts::state` is safe and ends: cell after cell.
 use Prim.Native.Nat.{_-_, _≤_}
-use lib.ListN.{length}
 use borrow.Author.Needs.{needs}
 use Rattle.cuts.proofs.state.Statement.{statement}
 use Rattle.cuts.proofs.state.Tie as tie
 
 abbrev Inv-loop : tie.InvT-loop
-Inv-loop cut words marks aims spare-words spare-marks spare-aims i₀ i = i ≤ length words
+Inv-loop cut n words marks aims spare-words spare-marks spare-aims i₀ i = i ≤ n
 
 abbrev μ-loop : tie.MeasureT-loop
-μ-loop cut words marks aims spare-words spare-marks spare-aims i₀ i = length words - i
+μ-loop cut n words marks aims spare-words spare-marks spare-aims i₀ i = n - i
 
 loop-holds : tie.Need-loop-holds Inv-loop μ-loop
 loop-holds c = search needs

@@ -1,24 +1,26 @@
 -- `cases::lines::bytes_line` is safe and ends: byte after byte.
 use Prim.Native.Nat.{_≤_, _-_}
-use lib.ListN.{length}
 use borrow.Author.Needs.{needs}
 use Rattle.cases.proofs.lines.bytes_line.Statement.{statement}
 use Rattle.cases.proofs.lines.bytes_line.Tie as tie
 
 abbrev Inv-loop : tie.InvT-loop
-Inv-loop name bytes i₀ i = i ≤ length bytes
+Inv-loop name n bytes last i₀ i = (i ≤ last) × (last ≤ 4096)
 
 abbrev μ-loop : tie.MeasureT-loop
-μ-loop name bytes i₀ i = length bytes - i
+μ-loop name n bytes last i₀ i = last - i
 
 text-requires : tie.Need-text-requires Inv-loop μ-loop
 text-requires c κs = search needs
 
+within-requires : tie.Need-within-requires Inv-loop μ-loop
+within-requires c κs = search needs
+
 loop-holds : tie.Need-loop-holds Inv-loop μ-loop
 loop-holds c = search needs
 
-shared-slice-read-wide-byte : tie.Need-shared-slice-read-wide-byte Inv-loop μ-loop
-shared-slice-read-wide-byte c = search needs
+array-read-wide-byte : tie.Need-array-read-wide-byte Inv-loop μ-loop
+array-read-wide-byte c = search needs
 
 wide-byte-requires : tie.Need-wide-byte-requires Inv-loop μ-loop
 wide-byte-requires c κs = search needs
@@ -48,8 +50,9 @@ bytes-line-spec =
     Inv-loop
     μ-loop
     text-requires
+    within-requires
     loop-holds
-    shared-slice-read-wide-byte
+    array-read-wide-byte
     wide-byte-requires
     value-requires
     add-i

@@ -1,18 +1,20 @@
 -- `cases::lines::halves_line` is safe and ends: half word after half word.
 use Prim.Native.Nat.{_≤_, _-_}
-use lib.ListN.{length}
 use borrow.Author.Needs.{needs}
 use Rattle.cases.proofs.lines.halves_line.Statement.{statement}
 use Rattle.cases.proofs.lines.halves_line.Tie as tie
 
 abbrev Inv-loop : tie.InvT-loop
-Inv-loop name halves i₀ i = i ≤ length halves
+Inv-loop name n halves last i₀ i = (i ≤ last) × (last ≤ 4096)
 
 abbrev μ-loop : tie.MeasureT-loop
-μ-loop name halves i₀ i = length halves - i
+μ-loop name n halves last i₀ i = last - i
 
 text-requires : tie.Need-text-requires Inv-loop μ-loop
 text-requires c κs = search needs
+
+within-requires : tie.Need-within-requires Inv-loop μ-loop
+within-requires c κs = search needs
 
 loop-holds : tie.Need-loop-holds Inv-loop μ-loop
 loop-holds c = search needs
@@ -20,8 +22,8 @@ loop-holds c = search needs
 mul-wide-half : tie.Need-mul-wide-half Inv-loop μ-loop
 mul-wide-half c = search needs
 
-shared-slice-read-wide-half : tie.Need-shared-slice-read-wide-half Inv-loop μ-loop
-shared-slice-read-wide-half c = search needs
+array-read-wide-half : tie.Need-array-read-wide-half Inv-loop μ-loop
+array-read-wide-half c = search needs
 
 wide-half-requires : tie.Need-wide-half-requires Inv-loop μ-loop
 wide-half-requires c κs = search needs
@@ -51,9 +53,10 @@ halves-line-spec =
     Inv-loop
     μ-loop
     text-requires
+    within-requires
     loop-holds
     mul-wide-half
-    shared-slice-read-wide-half
+    array-read-wide-half
     wide-half-requires
     value-requires
     add-i

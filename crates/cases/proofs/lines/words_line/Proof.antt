@@ -1,18 +1,20 @@
 -- `cases::lines::words_line` is safe and ends: word after word.
 use Prim.Native.Nat.{_≤_, _-_}
-use lib.ListN.{length}
 use borrow.Author.Needs.{needs}
 use Rattle.cases.proofs.lines.words_line.Statement.{statement}
 use Rattle.cases.proofs.lines.words_line.Tie as tie
 
 abbrev Inv-loop : tie.InvT-loop
-Inv-loop name words i₀ i = i ≤ length words
+Inv-loop name n words last i₀ i = (i ≤ last) × (last ≤ 4096)
 
 abbrev μ-loop : tie.MeasureT-loop
-μ-loop name words i₀ i = length words - i
+μ-loop name n words last i₀ i = last - i
 
 text-requires : tie.Need-text-requires Inv-loop μ-loop
 text-requires c κs = search needs
+
+within-requires : tie.Need-within-requires Inv-loop μ-loop
+within-requires c κs = search needs
 
 loop-holds : tie.Need-loop-holds Inv-loop μ-loop
 loop-holds c = search needs
@@ -20,8 +22,8 @@ loop-holds c = search needs
 mul-wide-word : tie.Need-mul-wide-word Inv-loop μ-loop
 mul-wide-word c = search needs
 
-shared-slice-read-wide-word : tie.Need-shared-slice-read-wide-word Inv-loop μ-loop
-shared-slice-read-wide-word c = search needs
+array-read-wide-word : tie.Need-array-read-wide-word Inv-loop μ-loop
+array-read-wide-word c = search needs
 
 wide-word-requires : tie.Need-wide-word-requires Inv-loop μ-loop
 wide-word-requires c κs = search needs
@@ -51,9 +53,10 @@ words-line-spec =
     Inv-loop
     μ-loop
     text-requires
+    within-requires
     loop-holds
     mul-wide-word
-    shared-slice-read-wide-word
+    array-read-wide-word
     wide-word-requires
     value-requires
     add-i

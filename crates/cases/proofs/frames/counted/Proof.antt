@@ -1,0 +1,56 @@
+-- `cases::frames::counted` is safe and ends: word after word.
+use Prim.Native.Nat.{_≤_, _-_}
+use mathlib.Core.Path.{_≡_}
+use lib.ListN.{length}
+use borrow.Author.Needs.{needs}
+use Rattle.cases.proofs.frames.counted.Statement.{statement}
+use Rattle.cases.proofs.frames.counted.Tie as tie
+
+abbrev Inv-loop : tie.InvT-loop
+Inv-loop first words₀ i₀ words i = (i ≤ 4096) × (length words ≡ 4096)
+
+abbrev μ-loop : tie.MeasureT-loop
+μ-loop first words₀ i₀ words i = 4096 - i
+
+loop-holds : tie.Need-loop-holds Inv-loop μ-loop
+loop-holds c = search needs
+
+cast-words : tie.Need-cast-words Inv-loop μ-loop
+cast-words c = search needs
+
+add-words : tie.Need-add-words Inv-loop μ-loop
+add-words c = search needs
+
+mul-words : tie.Need-mul-words Inv-loop μ-loop
+mul-words c = search needs
+
+array-write-words : tie.Need-array-write-words Inv-loop μ-loop
+array-write-words c = search needs
+
+add-i : tie.Need-add-i Inv-loop μ-loop
+add-i c = search needs
+
+loop-less : tie.Need-loop-less Inv-loop μ-loop
+loop-less c = search needs
+
+loop-again : tie.Need-loop-again Inv-loop μ-loop
+loop-again c = search needs
+
+returns : tie.Need-returns Inv-loop μ-loop
+returns c = search needs
+
+pub counted-spec : {M : Type 1} → statement M
+counted-spec =
+    tie.close
+    (tie.spec
+    Inv-loop
+    μ-loop
+    loop-holds
+    cast-words
+    add-words
+    mul-words
+    array-write-words
+    add-i
+    loop-less
+    loop-again
+    returns)
