@@ -15,10 +15,11 @@ use Rattle.array.specs.declared.moves.Way.{Way}
 use Rattle.array.specs.Cells.{isSide, groups, cells, place, partner}
 use Rattle.array.proofs.Board.{group-of, place-of, side-known}
 use Rattle.light.specs.Lane.{isBoard, swappedLane}
-use Rattle.lanes.specs.declared.Combining.{Combining}
+use Rattle.sums.specs.declared.Combining.{Combining}
 use Rattle.lanes.specs.declared.Joining.{Joining}
 use Rattle.lanes.specs.Machine.{State, all, at, load, unload, valueAt}
-use Rattle.lanes.specs.Runs.{running, isRun, ranWords, cellwise, combineOf, combinedWords}
+use Rattle.sums.specs.Sums.{cellwise, combineOf, combinedWords}
+use Rattle.lanes.specs.Runs.{running, isRun, ranWords}
 use Rattle.lanes.specs.Inside.{Board, Holds, Lane, Moved, swapped}
 use Rattle.lanes.proofs.Agreeing.{all-same}
 use Rattle.lanes.proofs.Coordinates.{place<, at<, partner-at, holds-load, unloaded}

@@ -3,7 +3,6 @@ pub mod Coordinates
 pub mod Held
 pub mod Laying
 pub mod Lines
-pub mod Renewing
 pub mod Spots
 pub mod Stepping
 pub mod Sweeping

@@ -12,7 +12,8 @@ use Rattle.array.specs.declared.moves.Way.{Way}
 use Rattle.array.specs.declared.moves.Way.the-variants.{Right, Left, Up, Down}
 use Rattle.logs.specs.Runs.{along}
 use Rattle.lanes.specs.Machine.{State, Rule, Stage, fromBefore, fromAfter, ran, all}
-use Rattle.lanes.specs.Stages.{front, from, word, copy, plus}
+use Rattle.sums.specs.Sums.{plus}
+use Rattle.lanes.specs.Stages.{front, from, word, copy}
 
 -- k moves along a line by itself
 abbrev pub line : ((ℕ → ℕ) → ℕ → Option ℕ) → (ℕ → ℕ → ℕ → Option ℕ → ℕ) → ℕ → (ℕ → ℕ) → ℕ → ℕ

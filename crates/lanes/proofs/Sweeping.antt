@@ -20,7 +20,8 @@ use Rattle.lanes.specs.declared.steps.Line.{Line}
 use Rattle.lanes.specs.declared.steps.Rule.{Rule}
 use Rattle.lanes.specs.declared.steps.Source.{Source}
 use Rattle.lanes.specs.declared.steps.Source.the-variants.{At, Nothing}
-use Rattle.lanes.specs.Stages.{front, plus, copy, filled, position}
+use Rattle.sums.specs.Sums.{plus}
+use Rattle.lanes.specs.Stages.{front, copy, filled, position}
 use Rattle.lanes.specs.Inside.{Group, sourceOf, wordAt, nextOf, stepped, filling, turned, behindOf, alongOf, acrossOf, noLine, lineFrom, lineAt, orderOf, Laid, joinOf, joinFrom}
 use Rattle.lanes.specs.Runs.{ruleOf}
 use Rattle.lanes.proofs.Lines.{front-now, front-not}

@@ -19,7 +19,8 @@ use Rattle.lanes.specs.declared.steps.Rule.{Rule}
 use Rattle.lanes.specs.declared.steps.Source.{Source}
 use Rattle.lanes.specs.declared.steps.Source.the-variants.{At, Nothing}
 use Rattle.lanes.specs.Machine.{State, make, at}
-use Rattle.lanes.specs.Stages.{position, word, plus}
+use Rattle.sums.specs.Sums.{plus}
+use Rattle.lanes.specs.Stages.{position, word}
 use Rattle.lanes.specs.Runs.{ruleOf}
 
 -- a lane of n words is one of a board of side s

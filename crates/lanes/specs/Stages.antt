@@ -1,5 +1,5 @@
 -- Stages of programs: runs in which a front goes along the lines, swaps, and what a cell does with a word.
-use Prim.Native.Nat.{ℕ, suc, _+_, _-_, _%_, _^_}
+use Prim.Native.Nat.{ℕ, suc, _+_, _-_}
 use mathlib.Core.Bool.{cond}
 use mathlib.Core.Option.{Option, none, some}
 use lib.Dec.{eqb}
@@ -39,18 +39,12 @@ joined op own (some x) = op own x
 abbrev pub light : {R : Type 0} → ℕ → (R → ℕ) → (R → ℕ → R) → Stage R
 light n send op = record { run = swapping n; send = send; rule = λ k c d a b. joined op }
 
--- words that are handed on as they are, taken as they come, added, and taken off, modulo 2 ^ 32
+-- words that are handed on as they are, and taken as they come
 abbrev pub word : ℕ → ℕ
 word own = own
 
 abbrev pub copy : ℕ → ℕ → ℕ
 copy own x = x
-
-abbrev pub plus : ℕ → ℕ → ℕ
-plus own x = (own + x) % (2 ^ 32)
-
-abbrev pub minus : ℕ → ℕ → ℕ
-minus own x = (own + (2 ^ 32 - x % (2 ^ 32))) % (2 ^ 32)
 
 -- what came, and 0 where nothing came
 abbrev pub filled : Option ℕ → ℕ

@@ -1,4 +1,4 @@
-// One lane of words: a run of electronic moves, and what its cells make of their words and those of another lane.
+// One lane of words: a run of electronic moves.
 mod steps;
 
 use crate::steps::run_board;
@@ -8,21 +8,13 @@ ghost use mathlib.Core.Path.{_≡_};
 ghost use mathlib.Core.Bool.{_&&_};
 ghost use lib.ListN.{length};
 ghost use Rattle.light.specs.Lane.{isBoard};
-ghost use Rattle.lanes.specs.Stages.{plus as plusOf};
-ghost use Rattle.lanes.specs.Runs.{isRun, ranWords, combineOf, combinedWords};
+ghost use Rattle.lanes.specs.Runs.{isRun, ranWords};
 
 // How a cell takes a word: it adds it, or has it in place of its own, when it is the turn of its position; or it fills itself with it always.
 pub enum Joining {
     Add,
     Copy,
     Fill,
-}
-
-// A word takes another's place, is added, or is taken off, modulo 2^32.
-pub enum Combining {
-    Take,
-    Plus,
-    Minus,
 }
 
 fn is_run(side: usize, e: usize, n: usize, length: usize) -> bool
@@ -44,36 +36,4 @@ pub fn run(side: usize, way: Way, joining: Joining, e: usize, n: usize, words: &
         return;
     }
     run_board(words, side, way, joining, e, n);
-}
-
-// A sum, modulo 2^32.
-pub(crate) fn plus(own: u32, x: u32) -> u32
-    ensures { λ r. ⌜ r ≡ plusOf own x ⌝ }
-{
-    std::num::wrapping_add_u32(own, x)
-}
-
-fn combined(how: Combining, own: u32, x: u32) -> u32
-    ensures { λ r. ⌜ r ≡ combineOf how own x ⌝ }
-{
-    match how {
-        Combining::Take => x,
-        Combining::Plus => plus(own, x),
-        Combining::Minus => std::num::wrapping_sub_u32(own, x),
-    }
-}
-
-// Each word becomes what it and the other lane's word in its cell make.
-pub fn combine(how: Combining, to: &mut [u32], from: &[u32])
-    ensures { λ _. ⌜ now (to .exit) ≡ combinedWords how (now (to .entry)) (now (from .entry)) ⌝ }
-{
-    if to.len() != from.len() {
-        return;
-    }
-    let mut i = 0;
-    while i < to.len() {
-        let v = combined(how, to[i], from[i]);
-        to[i] = v;
-        i += 1;
-    }
 }

@@ -1,7 +1,7 @@
 // Electronic moves of one lane: in a group's own stretch, in all groups, and in runs.
 use crate::Joining;
-use crate::plus;
 use array::moves::Way;
+use sums::plus;
 ghost use mathlib.Core.Path.{_≡_};
 ghost use mathlib.Core.Bool.{cond};
 ghost use Prim.Native.Nat.{_+_, _-_, _≤_, _<_};

@@ -10,7 +10,8 @@ use Rattle.laws.specs.Sums.{sum}
 use Rattle.array.specs.declared.moves.Way.the-variants.{Right, Left, Up, Down}
 use Rattle.lists.specs.Lists.{prefixSumRuns}
 use Rattle.lanes.specs.Machine.{State, all, runsOf, at, load, unload}
-use Rattle.lanes.specs.Stages.{from, light, copy, plus, minus}
+use Rattle.sums.specs.Sums.{plus, minus}
+use Rattle.lanes.specs.Stages.{from, light, copy}
 use Rattle.prefix.specs.Programs.{Sums, loadSums, addRow, addColumn, takeGroup, addGroups, addGroupRows, rowsAbove, takeAbove, groupsBefore, takeBefore, rowBefore, takeRow, prefixSum, prefixed}
 use Rattle.prefix.specs.Results.{prefixSumWords}
 use Rattle.lanes.specs.Inside.{swapped}

@@ -9,9 +9,10 @@ use Rattle.array.specs.declared.moves.Way.{Way}
 use Rattle.array.specs.declared.moves.Way.the-variants.{Right, Left, Up, Down}
 use Rattle.light.specs.Lane.{isBoard, swappedLane}
 use Rattle.lanes.specs.declared.Joining.the-variants.{Add, Copy}
-use Rattle.lanes.specs.declared.Combining.the-variants.{Take, Plus, Minus}
+use Rattle.sums.specs.declared.Combining.the-variants.{Take, Plus, Minus}
 use Rattle.lanes.specs.Machine.{State, load}
-use Rattle.lanes.specs.Runs.{ranWords, combinedWords}
+use Rattle.sums.specs.Sums.{combinedWords}
+use Rattle.lanes.specs.Runs.{ranWords}
 use Rattle.lanes.specs.Inside.{Board, Lane, Moves, swapped}
 use Rattle.lanes.proofs.Held.{board-known, lane-load, lane-words, ran-lane, swapped-lane, combined-lane}
 use Rattle.prefix.specs.Programs.{prefixed}

@@ -4,7 +4,8 @@ use mathlib.Core.List.{List}
 use Rattle.array.specs.declared.moves.Way.{Way}
 use Rattle.array.specs.declared.moves.Way.the-variants.{Right, Left, Up, Down}
 use Rattle.lanes.specs.Machine.{State, all}
-use Rattle.lanes.specs.Stages.{from, word, copy, plus, minus}
+use Rattle.sums.specs.Sums.{plus, minus}
+use Rattle.lanes.specs.Stages.{from, word, copy}
 use Rattle.lanes.specs.Inside.{Lane, swapped}
 use Rattle.prefix.specs.Programs.{prefixed}
 

@@ -3,7 +3,8 @@ use Prim.Native.Nat.{ℕ, _-_}
 use mathlib.Core.List.{List, [], _∷_}
 use Rattle.array.specs.declared.moves.Way.the-variants.{Right, Left, Up, Down}
 use Rattle.lanes.specs.Machine.{State, Stage, made}
-use Rattle.lanes.specs.Stages.{from, light, plus, minus}
+use Rattle.sums.specs.Sums.{plus, minus}
+use Rattle.lanes.specs.Stages.{from, light}
 
 -- Prefix sum, in the paper's nine steps.
 -- r: the sum of the cell's row up to it. c: that of r down its column, its own row included. a: what came by light.

@@ -1,11 +1,11 @@
 // Prefix sum, on a lane of words, in the paper's nine steps.
 use array::moves::Way;
-use lanes::Combining;
 use lanes::Joining;
-use lanes::combine;
 use lanes::run;
 use light::is_board;
 use light::swap_words;
+use sums::Combining;
+use sums::combine;
 ghost use mathlib.Core.Path.{_≡_};
 ghost use Prim.Native.Nat.{_≤_};
 ghost use lib.ListN.{length};

@@ -21,11 +21,12 @@ use Rattle.array.specs.Moves.{opposite}
 use Rattle.shifts.specs.Shifts.{distanceOf, within, modulo, forthMoves, backMoves, shiftRuns}
 use Rattle.array.proofs.Board.{place-of}
 use Rattle.light.specs.Lane.{isBoard, swappedLane}
-use Rattle.lanes.specs.declared.Combining.the-variants.{Take}
+use Rattle.sums.specs.declared.Combining.the-variants.{Take}
 use Rattle.lanes.specs.declared.Joining.the-variants.{Fill}
 use Rattle.lanes.specs.Machine.{State, at, load, unload}
 use Rattle.lanes.specs.Stages.{position}
-use Rattle.lanes.specs.Runs.{ranWords, combinedWords}
+use Rattle.sums.specs.Sums.{combinedWords}
+use Rattle.lanes.specs.Runs.{ranWords}
 use Rattle.lanes.specs.Inside.{Lane, Moves, swapped}
 use Rattle.lanes.proofs.Coordinates.{place<}
 use Rattle.lanes.proofs.Held.{board-known, lane-load, lane-words, ran-lane, swapped-lane, cellwise-lane, combined-lane}

@@ -14,7 +14,8 @@ use Rattle.array.specs.Moves.{opposite}
 use Rattle.lanes.specs.declared.Joining.the-variants.{Fill}
 use Rattle.lanes.specs.Machine.{State, all}
 use Rattle.lanes.specs.Stages.{position}
-use Rattle.lanes.specs.Runs.{running, cellwise}
+use Rattle.sums.specs.Sums.{cellwise}
+use Rattle.lanes.specs.Runs.{running}
 use Rattle.lanes.specs.Inside.{Lane, swapped}
 use Rattle.slides.specs.declared.Spot.{Spot}
 use Rattle.slides.specs.Programs.{takesBack}

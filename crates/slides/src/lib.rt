@@ -1,9 +1,7 @@
 // The eight shifts, on a lane of words.
 use array::moves::Way;
 use array::moves::opposite;
-use lanes::Combining;
 use lanes::Joining;
-use lanes::combine;
 use lanes::run;
 use light::is_board;
 use light::swap_words;
@@ -12,6 +10,8 @@ use shifts::Edge;
 use shifts::distance_of;
 use shifts::is_within;
 use shifts::shift_runs;
+use sums::Combining;
+use sums::combine;
 ghost use mathlib.Core.Path.{_≡_};
 ghost use mathlib.Core.Bool.{cond};
 ghost use Prim.Native.Nat.{_≤_, _<_};

@@ -11,7 +11,8 @@ use Rattle.array.specs.Cells.{cells, group, row, column}
 use Rattle.lists.specs.Lists.{broadcastList, dataSumRuns}
 use Rattle.array.specs.declared.moves.Way.the-variants.{Right, Left, Up, Down}
 use Rattle.lanes.specs.Machine.{State, Rule, fromBefore, fromAfter, all, made, runsOf, at, load, unload}
-use Rattle.lanes.specs.Stages.{front, copy, plus}
+use Rattle.sums.specs.Sums.{plus}
+use Rattle.lanes.specs.Stages.{front, copy}
 use Rattle.spreads.specs.Programs.{spread, broadcast, groupSum, dataSum}
 use Rattle.spreads.specs.Results.{broadcastWords, dataSumWords}
 use Rattle.lanes.proofs.Coordinates.{c-in, d-in, a-in, b-in, at-is, unload-same, sum-cells}

@@ -8,7 +8,7 @@ use lib.ListN.{length, getD}
 use Rattle.array.specs.Cells.{place, row, column}
 use Rattle.lanes.specs.Stages.{position}
 use Rattle.slides.specs.Inside.{takes}
-use Rattle.lanes.proofs.Renewing.{Renewed, renewed-start, renewed-next, renewed-end}
+use Rattle.sums.proofs.Renewing.{Renewed, renewed-start, renewed-next, renewed-end}
 use Rattle.slides.proofs.Spotted.{Spotted, spotted-start, spotted-next, row-less, column-less}
 use Rattle.slides.proofs.choose.Statement.{statement}
 use Rattle.slides.proofs.choose.Tie as tie

@@ -1,7 +1,8 @@
 -- `lanes::steps::step` meets its contract: by cases on the joining.
 use mathlib.Core.Path.{refl}
 use Rattle.lanes.specs.declared.Joining.the-variants.{Add, Copy}
-use Rattle.lanes.specs.Stages.{plus, copy}
+use Rattle.sums.specs.Sums.{plus}
+use Rattle.lanes.specs.Stages.{copy}
 use Rattle.lanes.proofs.Spots.{line-in-group}
 use Rattle.lanes.proofs.Sweeping.{turned-line, front-stepped, filled-stepped}
 use borrow.Author.Needs.{needs}

@@ -1,8 +1,8 @@
--- `lanes::combined` meets its contract: by cases; the difference wraps.
-use Rattle.lanes.proofs.Renewing.{minus-is}
+-- `sums::combined` meets its contract: by cases; the difference wraps.
+use Rattle.sums.proofs.Renewing.{minus-is}
 use borrow.Author.Needs.{needs}
-use Rattle.lanes.proofs.combined.Statement.{statement}
-use Rattle.lanes.proofs.combined.Tie as tie
+use Rattle.sums.proofs.combined.Statement.{statement}
+use Rattle.sums.proofs.combined.Tie as tie
 
 enum-told : tie.Need-enum-told
 enum-told c = search needs

@@ -1,13 +1,13 @@
--- `lanes::combine` meets its contract: cell by cell, by `Renewed`.
+-- `sums::combine` meets its contract: cell by cell, by `Renewed`.
 use Prim.Native.Nat.{_≤_, _-_}
 use native.Mathlib.Omega.{arith}
 use lib.ListN.{length, getD}
 use borrow.Author.Needs.{needs}
 use borrow.Author.Tests.{eq-eqb, ne-eqb}
-use Rattle.lanes.specs.Runs.{combineOf}
-use Rattle.lanes.proofs.Renewing.{Renewed, renewed-start, renewed-next, renewed-end}
-use Rattle.lanes.proofs.combine.Statement.{statement}
-use Rattle.lanes.proofs.combine.Tie as tie
+use Rattle.sums.specs.Sums.{combineOf}
+use Rattle.sums.proofs.Renewing.{Renewed, renewed-start, renewed-next, renewed-end}
+use Rattle.sums.proofs.combine.Statement.{statement}
+use Rattle.sums.proofs.combine.Tie as tie
 
 abbrev Inv-loop : tie.InvT-loop
 Inv-loop how to₀ from i₀ to i = (i ≤ length to₀) × Renewed (λ k own. combineOf how own (getD from k 0)) to₀ i to

@@ -7,8 +7,8 @@ use native.Mathlib.Decide.{ℕ-discrete}
 use lib.ListN.{length, getD, set, length-set}
 use lib.Seq.{getD-set-same, getD-set-other}
 use Rattle.laws.proofs.Tables.{entries-all}
-use Rattle.lanes.specs.Stages.{minus}
-use Rattle.lanes.specs.Runs.{cellwise}
+use Rattle.sums.specs.Sums.{minus}
+use Rattle.sums.specs.Sums.{cellwise}
 
 -- a difference that wraps
 pub minus-is : (a b r : ℕ) → a < 2 ^ 32 → b < 2 ^ 32 → r < 2 ^ 32 → (r + b) % (2 ^ 32) ≡ a → r ≡ minus a b
