@@ -13,11 +13,11 @@ use Rattle.array.specs.declared.moves.LogLine.{LogLine}
 use Rattle.array.specs.declared.moves.Logged.{Logged}
 use Rattle.array.specs.declared.moves.Logged.the-variants.{Line, NoMove}
 use Rattle.answertext.specs.declared.Totals.{Totals}
-use Rattle.texts.specs.Printed.{line, rows, field}
+use Rattle.printing.specs.Printed.{line, rows, field}
 use Rattle.answertext.specs.Log.{lines, lineOf, totalsOf}
 use Rattle.answertext.specs.Answers.{kindText, wayText, header, moveLine, allLine, recordLine, moveRow, recordRow, logText, answerText, refusedText, stepText}
-use Rattle.texts.specs.Buffers.{Written}
-use Rattle.texts.proofs.Putting.{nothing, one-then, Rowing, rows-next}
+use Rattle.printing.specs.Buffers.{Written}
+use Rattle.printing.proofs.Putting.{nothing, one-then, Rowing, rows-next}
 
 -- the kind and the way of a move
 module _ {out : List ℕ} {at r : ℕ} {out′ : List ℕ} where

@@ -12,7 +12,7 @@ use Rattle.array.specs.declared.moves.Move.{Move}
 use Rattle.array.specs.declared.moves.Move.the-variants.{Swap, Electronic}
 use Rattle.array.specs.declared.moves.Logged.{Logged}
 use Rattle.array.specs.declared.moves.Logged.the-variants.{Line, NoMove}
-use Rattle.texts.specs.Printed.{digits, decimal, line, rows}
+use Rattle.printing.specs.Printed.{digits, decimal, line, rows}
 use Rattle.answertext.specs.declared.Totals.{Totals}
 use Rattle.answertext.specs.Log.{lines, lineOf, totalsOf}
 use Rattle.answertext.specs.Answers.{kindText, wayText, header, moveLine, allLine, recordLine, moveRow, recordRow, logText, answerText, refusedText}

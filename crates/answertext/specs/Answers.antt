@@ -9,7 +9,7 @@ use Rattle.array.specs.declared.moves.Move.the-variants.{Swap, Electronic}
 use Rattle.array.specs.declared.moves.Logged.{Logged}
 use Rattle.array.specs.declared.moves.Logged.the-variants.{Line, NoMove}
 use Rattle.answertext.specs.declared.Totals.{Totals}
-use Rattle.texts.specs.Printed.{decimal, line, rows}
+use Rattle.printing.specs.Printed.{decimal, line, rows}
 use Rattle.answertext.specs.Log.{lines, lineOf, totalsOf}
 
 -- E electronic, or O optical

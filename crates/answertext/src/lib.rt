@@ -6,15 +6,15 @@ use array::moves::Way;
 use array::moves::log_line;
 use logs::electronic_in;
 use logs::swaps_in;
-use texts::write::put;
-use texts::write::put_field;
+use printing::put;
+use printing::put_field;
 ghost use mathlib.Core.Path.{_≡_};
 ghost use Prim.Native.Nat.{_≤_, min};
 ghost use lib.ListN.{length};
-ghost use Rattle.texts.specs.Printed.{rows};
+ghost use Rattle.printing.specs.Printed.{rows};
 ghost use Rattle.answertext.specs.Log.{lineOf, addedTo, totalsOf};
 ghost use Rattle.answertext.specs.Answers.{stepText, moveLine, recordLine, allLine, moveRow, recordRow, answerText, refusedText};
-ghost use Rattle.texts.specs.Buffers.{Written};
+ghost use Rattle.printing.specs.Buffers.{Written};
 
 // What the lines of a log add up to.
 pub struct Totals {

@@ -5,8 +5,8 @@ use mathlib.Core.List.{List}
 use native.Mathlib.Omega.{arith}
 use lib.ListN.{length, take, length-append}
 use lib.Seq.{length-take-le}
-use Rattle.texts.specs.Buffers.{Written}
-use Rattle.texts.proofs.Putting.{whole}
+use Rattle.printing.specs.Buffers.{Written}
+use Rattle.printing.proofs.Putting.{whole}
 use Rattle.jobtext.specs.declared.Job.{Job}
 use Rattle.jobtext.specs.declared.Job.the-variants.{Ready, Refused}
 use Rattle.answertext.specs.Answers.{refusedText}

@@ -6,7 +6,7 @@ use Prim.Native.Nat.{ℕ}
 use Rattle.texts.specs.Bytes.{bytes, same}
 use Rattle.texts.specs.Numbers.{digitsFrom, numberOf}
 use Rattle.texts.specs.Lines.{before, firstField, secondField, front, linesOf}
-use Rattle.texts.specs.Printed.{digits, line, rows}
+use Rattle.printing.specs.Printed.{digits, line, rows}
 use Rattle.jobtext.specs.Verdicts.{sideOf, entryOf, also, cellsFrom, jobFrom, verdict}
 use Rattle.answertext.specs.Log.{column, totalsOf}
 use Rattle.answertext.specs.Answers.{kindText, wayText, header, moveLine, allLine, recordLine, moveRow, recordRow, logText, refusedText}

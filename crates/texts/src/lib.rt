@@ -1,3 +1,2 @@
-// Texts of lines, fields and numbers: read from lent slices, and put into lent buffers.
+// Texts of lines, fields and numbers, read from lent slices.
 pub mod read;
-pub mod write;

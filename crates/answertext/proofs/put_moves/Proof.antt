@@ -1,5 +1,5 @@
 -- `answertext::put_moves` meets its contract: line after line of the log.
-use Rattle.texts.proofs.Putting.{Rowing, rows-begin, rows-end}
+use Rattle.printing.proofs.Putting.{Rowing, rows-begin, rows-end}
 use Rattle.answertext.proofs.Lines.{moves-next}
 use Rattle.answertext.specs.Log.{lineOf}
 use Rattle.answertext.specs.Answers.{moveRow}

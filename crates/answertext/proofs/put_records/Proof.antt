@@ -1,5 +1,5 @@
 -- `answertext::put_records` meets its contract: record after record.
-use Rattle.texts.proofs.Putting.{Rowing, rows-begin, rows-end}
+use Rattle.printing.proofs.Putting.{Rowing, rows-begin, rows-end}
 use Rattle.answertext.proofs.Lines.{records-next}
 use Rattle.answertext.specs.Answers.{recordRow}
 use lib.ListN.{length}

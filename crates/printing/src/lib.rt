@@ -1,7 +1,7 @@
 // Writing: each function puts its text into a lent buffer from index `at` on, as far as the buffer goes, and answers where it ends.
 ghost use mathlib.Core.List.{[], _∷_};
-ghost use Rattle.texts.specs.Printed.{digits, field};
-ghost use Rattle.texts.specs.Buffers.{Written};
+ghost use Rattle.printing.specs.Printed.{digits, field};
+ghost use Rattle.printing.specs.Buffers.{Written};
 
 pub fn put_byte(out: &mut [u8], at: usize, byte: u8) -> usize
     ensures { λ r. ⌜ Written (now (out .entry)) at (byte ∷ []) r (now (out .exit)) ⌝ }

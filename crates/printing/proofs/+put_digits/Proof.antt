@@ -1,16 +1,16 @@
--- `texts::write::put_digits` meets its contract: the digits before the last, and the last.
+-- `printing::put_digits` meets its contract: the digits before the last, and the last.
 use borrow.Author.Needs.{needs}
 use mathlib.Core.Path.{_∙_}
-use Rattle.texts.proofs.Digits.{digits-none, digits-one, digits-more}
+use Rattle.printing.proofs.Digits.{digits-none, digits-one, digits-more}
 use Prim.Native.Nat.{ℕ, _<_}
 use borrow.Fn.Kinds.{In}
 use borrow.Fn.PlainCycle.{Measures, is, falls, and}
-use Rattle.texts.proofs.write.put_digits.Reads as put-digits
-use Rattle.texts.proofs.write.put_digits.Kinds as put-digits-kinds
-use Rattle.texts.proofs.write.+put_digits.Lts-put_digits as put-digits-lts
-use Rattle.texts.proofs.write.put_byte.Reads as put-byte-reads
-use Rattle.texts.proofs.write.+put_digits.{statement}
-use Rattle.texts.proofs.write.+put_digits.Tie.{close}
+use Rattle.printing.proofs.put_digits.Reads as put-digits
+use Rattle.printing.proofs.put_digits.Kinds as put-digits-kinds
+use Rattle.printing.proofs.+put_digits.Lts-put_digits as put-digits-lts
+use Rattle.printing.proofs.put_byte.Reads as put-byte-reads
+use Rattle.printing.proofs.+put_digits.{statement}
+use Rattle.printing.proofs.+put_digits.Tie.{close}
 
 abbrev μ-put-digits : Measures 1 put-digits-kinds.ps ℕ
 μ-put-digits κs a = a .1 .1 .1 .0

@@ -1,10 +1,10 @@
--- `texts::write::put` meets its contract: byte after byte.
-use Rattle.texts.proofs.Putting.{Putting, put-begin, put-next, put-end}
+-- `printing::put` meets its contract: byte after byte.
+use Rattle.printing.proofs.Putting.{Putting, put-begin, put-next, put-end}
 use lib.ListN.{length}
 use Prim.Native.Nat.{_-_}
 use borrow.Author.Needs.{needs}
-use Rattle.texts.proofs.write.put.Statement.{statement}
-use Rattle.texts.proofs.write.put.Tie as tie
+use Rattle.printing.proofs.put.Statement.{statement}
+use Rattle.printing.proofs.put.Tie as tie
 
 abbrev Inv-loop : tie.InvT-loop
 Inv-loop out₀ at text end₀ i₀ out end i = Putting out₀ at text out end i

@@ -10,8 +10,8 @@ use lib.Seq.{sets, length-sets, take-suc, take-all, sets-eq}
 use lib.Dec.{leb}
 use borrow.Author.Tests.{leb-true, leb-false}
 use Rattle.laws.proofs.Stores.{sets-append, sets-past}
-use Rattle.texts.specs.Printed.{rows}
-use Rattle.texts.specs.Buffers.{Written}
+use Rattle.printing.specs.Printed.{rows}
+use Rattle.printing.specs.Buffers.{Written}
 
 -- nothing
 pub nothing : (out : List ℕ) (at : ℕ) → Written out at [] at out

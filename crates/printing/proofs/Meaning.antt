@@ -7,10 +7,10 @@ use native.Mathlib.Omega.{arith}
 use native.Mathlib.Nat.{pow-suc}
 use lib.Dec.{ltb}
 use borrow.Author.Tests.{le-leb, ne-eqb, ltb-true, ltb-false}
 use Rattle.texts.specs.Numbers.{digitsFrom, numberOf}
-use Rattle.texts.specs.Printed.{digits, decimal}
+use Rattle.printing.specs.Printed.{digits, decimal}
 use Rattle.texts.specs.declared.read.Number.{Number}
 use Rattle.texts.specs.declared.read.Number.the-variants.{Of}
 
 -- one digit d
 read-digit : (m d : ℕ) (rest : List ℕ) → d < 10 → digitsFrom m ((48 + d) ∷ rest) ≡ digitsFrom (m * 10 + d) rest

@@ -1,8 +1,8 @@
--- `texts::write::put_byte` meets its contract: a byte where the buffer has room.
-use Rattle.texts.proofs.Putting.{no-byte}
+-- `printing::put_byte` meets its contract: a byte where the buffer has room.
+use Rattle.printing.proofs.Putting.{no-byte}
 use borrow.Author.Needs.{needs}
-use Rattle.texts.proofs.write.put_byte.Statement.{statement}
-use Rattle.texts.proofs.write.put_byte.Tie as tie
+use Rattle.printing.proofs.put_byte.Statement.{statement}
+use Rattle.printing.proofs.put_byte.Tie as tie
 
 returns : tie.Need-returns
 returns c = search no-byte

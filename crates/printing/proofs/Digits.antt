@@ -5,9 +5,9 @@ use mathlib.Core.List.{List, [], _∷_}
 use native.Mathlib.Numerals.{sub-one}
 use native.Mathlib.Omega.{arith}
 use borrow.Author.Tests.{lt-ltb, le-ltb}
-use Rattle.texts.specs.Printed.{digits, field}
-use Rattle.texts.specs.Buffers.{Written}
-use Rattle.texts.proofs.Putting.{nothing, one-then}
+use Rattle.printing.specs.Printed.{digits, field}
+use Rattle.printing.specs.Buffers.{Written}
+use Rattle.printing.proofs.Putting.{nothing, one-then}
 
 module _ (n : ℕ) {out : List ℕ} {at : ℕ} where
   pub digits-none : (most : ℕ) → most ≡ 0 → Written out at (digits most n) at out

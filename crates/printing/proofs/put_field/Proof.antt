@@ -1,8 +1,8 @@
--- `texts::write::put_field` meets its contract: a number of 64 bits has at most twenty digits.
-use Rattle.texts.proofs.Digits.{field-written}
+-- `printing::put_field` meets its contract: a number of 64 bits has at most twenty digits.
+use Rattle.printing.proofs.Digits.{field-written}
 use borrow.Author.Needs.{needs}
-use Rattle.texts.proofs.write.put_field.Statement.{statement}
-use Rattle.texts.proofs.write.put_field.Tie as tie
+use Rattle.printing.proofs.put_field.Statement.{statement}
+use Rattle.printing.proofs.put_field.Tie as tie
 
 put-digits-requires : tie.Need-put-digits-requires
 put-digits-requires c κs = search needs
