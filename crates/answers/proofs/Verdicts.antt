@@ -1,18 +1,18 @@
 -- Laws of verdicts: an answer with the number 0 says that no case applies, and any other is that of the first case that does.
 use Prim.Native.Nat.{ℕ, _^_, _≤_, _<_}
-use mathlib.Core.Path.{_≡_, refl, ap₂}
+use mathlib.Core.Path.{_≡_, refl, sym, ap, ap₂, _∙_}
 use mathlib.Core.Bool.{Bool, true, false}
 use mathlib.Core.List.{List, [], _∷_}
 use native.Mathlib.Nat.{mod-eq-of-lt}
 use native.Mathlib.Omega.{arith}
 use lib.ListN.{length}
-use borrow.Author.Tests.{not-false, eq-eqb, le-ltb}
+use borrow.Author.Tests.{not-false, eq-eqb, ne-eqb, le-ltb}
 use Rattle.answers.specs.declared.Answer.{Answer}
 use Rattle.answers.specs.declared.Case.{Case}
 use Rattle.logs.specs.declared.Run.{Run}
 use Rattle.array.specs.Cells.{isSide, cells}
 use Rattle.logs.specs.Runs.{moves, electronic, swaps}
-use Rattle.answers.specs.Answers.{accepted, verdict, sideCase, laneCase, logCase, acceptedBy}
+use Rattle.answers.specs.Answers.{accepted, refusing, verdict, whereAccepted, sideCase, laneCase, logCase, acceptedBy}
 
 -- no case of a list applies, and every case is a refusal
 abbrev pub NoneApplies : List Case → Type 0
@@ -62,3 +62,16 @@ lane-passes s n e = rw (eq-eqb n (cells s) e)
 
 pub log-passes : (rs : List Run) (n : ℕ) → length (moves rs) ≤ n → logCase rs n .applies ≡ false
 log-passes rs n h = le-ltb n (length (moves rs)) h
+
+-- three cases, one after the other, as the code works them out
+pub three-cases : (a b c p q r : Case) (w x y z : Answer) → p ≡ a → q ≡ b → r ≡ c → x ≡ refusing r w → y ≡ refusing q x → z ≡ refusing p y
+    → z ≡ verdict (a ∷ b ∷ c ∷ []) w
+three-cases a b c p q r w x y z ep eq er ex ey ez =
+    ez ∙ ap₂ refusing ep (ey ∙ ap₂ refusing eq (ex ∙ ap (λ k. refusing k w) er))
+
+-- what an answer leaves
+pub left-old : {A : Type 0} (a r : Answer) (new old : A) → r ≡ a → (r .number ≡ 0 → ⊥) → whereAccepted a new old ≡ old
+left-old a r new old e h = rw (ne-eqb (a .number) 0 (λ z. h (ap (λ (b : Answer). b .number) e ∙ z)))
+
+pub left-new : {A : Type 0} (a r : Answer) (new old : A) → r ≡ a → r .number ≡ 0 → whereAccepted a new old ≡ new
+left-new a r new old e h = rw (eq-eqb (a .number) 0 (sym (ap (λ (b : Answer). b .number) e) ∙ h))

@@ -55,11 +55,8 @@ pub fn accepted(electronic: usize, swaps: usize) -> Answer
 pub fn refusing(case: Case, otherwise: Answer) -> Answer
     ensures { λ r. ⌜ r ≡ refusingOf case otherwise ⌝ }
 {
-    if case.applies {
-        refused(case.number, case.place)
-    } else {
-        otherwise
-    }
+    let refusal = refused(case.number, case.place);
+    if case.applies { refusal } else { otherwise }
 }
 
 pub fn side_case(side: usize) -> Case

@@ -53,5 +53,5 @@ pub(crate) fn broadcast(side: usize, mut words: [u32; 4096]) {
 }
 
 pub(crate) fn group_words(side: usize, words: [u32; 4096]) {
-    lines::values(words::group_words_answer(side, 0, &words));
+    lines::values(stretches::group_words_answer(side, 0, &words));
 }

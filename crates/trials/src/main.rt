@@ -109,8 +109,8 @@ fn group_words(side: usize, group: usize, lane: usize)
 {
     let mut words = WORDS;
     io::write_all(1, b"group_words");
-    show_answer(words::group_words_answer(side, group, &words[..lane]));
-    let part = words::group_words(side, group, &mut words[..lane]);
+    show_answer(stretches::group_words_answer(side, group, &words[..lane]));
+    let part = stretches::group_words(side, group, &mut words[..lane]);
     show_part(&part[..]);
 }
 

@@ -8,7 +8,7 @@ use lib.IntN.{ℤ}
 use lib.Dec.{ltb}
 use lib.ListN.{length, drop, length-map}
 use lib.Seq.{sets, sets-eq}
-use borrow.Author.Tests.{not-false, ltb-true, ltb-false, eqb-true, eq-eqb, ne-eqb}
+use borrow.Author.Tests.{not-false, ltb-true, ltb-false, eqb-true}
 use Rattle.laws.proofs.Bools.{both-left, both-right}
 use Rattle.answers.specs.declared.Answer.{Answer}
 use Rattle.answers.specs.declared.Case.{Case}
@@ -18,18 +18,18 @@ use Rattle.shifts.specs.declared.Axis.the-variants.{MeshRow, MeshColumn, GroupR
 use Rattle.shifts.specs.declared.Edge.{Edge}
 use Rattle.shifts.specs.declared.Edge.the-variants.{ZeroFill, Circular}
 use Rattle.shifts.specs.declared.Distance.{Distance}
-use Rattle.array.specs.Cells.{isSide, groups, cells, isCell}
+use Rattle.array.specs.Cells.{isSide, cells, isCell}
 use Rattle.array.specs.Moves.{codeOf}
 use Rattle.logs.specs.Runs.{moves, codes, electronic, swaps}
 use Rattle.lists.specs.Lists.{broadcastList, broadcastRuns, dataSumRuns, prefixSumRuns}
 use Rattle.shifts.specs.Shifts.{distanceOf, within, forthMoves, backMoves, swapsOf, shiftList, shiftRuns}
-use Rattle.answers.specs.Answers.{accepted, refusing, verdict, whereAccepted, sideCase, laneCase, logCase, acceptedBy}
+use Rattle.answers.specs.Answers.{accepted, verdict, sideCase, laneCase, logCase, acceptedBy}
 use Rattle.array.proofs.Board.{Side, side-known, cell-known}
 use Rattle.lists.proofs.Counts.{data-sum-electronic, prefix-sum-electronic, broadcast-electronic}
 use Rattle.shifts.proofs.Counts.{zero-fill-electronic, circular-electronic, shift-swaps}
-use Rattle.answers.proofs.Verdicts.{NoneApplies, none-applies, accepted-counts}
+use Rattle.answers.proofs.Verdicts.{NoneApplies, none-applies, accepted-counts, left-old, left-new}
 use Rattle.lanes.specs.Inside.{Board}
-use Rattle.words.specs.Entries.{cellCase, distanceCase, groupCase, shiftElectronic, broadcastAnswer, dataSumAnswer, prefixSumAnswer, shiftAnswer, groupAnswer, logged, Entry}
+use Rattle.words.specs.Entries.{cellCase, distanceCase, shiftElectronic, broadcastAnswer, dataSumAnswer, prefixSumAnswer, shiftAnswer, logged, Entry}
 
 -- answers that agree where no case applies
 agree : (cs : List Case) (a b : Answer) → (NoneApplies cs → a ≡ b) → verdict cs a ≡ verdict cs b
@@ -39,12 +39,6 @@ agree (c ∷ cs) a b h = go (c .applies) refl (λ f. agree cs a b f)
     go : (t : Bool) → c .applies ≡ t → ((NoneApplies cs → a ≡ b) → verdict cs a ≡ verdict cs b) → verdict (c ∷ cs) a ≡ verdict (c ∷ cs) b
     go true e rest = rw e
     go false e rest = rw e (rest (λ n. h (e, n)))
-
--- three cases, one after the other, as the code works them out
-pub three-cases : (a b c p q r : Case) (w x y z : Answer) → p ≡ a → q ≡ b → r ≡ c → x ≡ refusing r w → y ≡ refusing q x → z ≡ refusing p y
-    → z ≡ verdict (a ∷ b ∷ c ∷ []) w
-three-cases a b c p q r w x y z ep eq er ex ey ez =
-    ez ∙ ap₂ refusing ep (ey ∙ ap₂ refusing eq (ex ∙ ap (λ k. refusing k w) er))
 
 -- a side that is built
 built : (s : ℕ) → sideCase s .applies ≡ false → Side s
@@ -149,26 +143,6 @@ shift-room s axis edge k n log r e h =
     let z = none-applies cs _ (omega arith, (omega arith, (omega arith, (omega arith, tt)))) (rw e at h) in
     let w = not-false (within s (distanceOf k)) (z .1 .1 .1 .0) in
     record { known = room s n (shiftRuns s axis edge k) log (z .0) (z .1 .0) (z .1 .1 .0); near = w }
-
-pub record GroupRoom (s g n : ℕ) : Type 0 where
-  pub board : Board s n
-  pub inside : g < groups s
-
-pub group-room : (s g n : ℕ) (r : Answer) → r ≡ groupAnswer s g n → r .number ≡ 0 → GroupRoom s g n
-group-room s g n r e h =
-    let k = none-applies (sideCase s ∷ laneCase s n ∷ groupCase s g ∷ []) _ (omega arith, (omega arith, (omega arith, tt))) (rw e at h) in
-    let b = built s (k .0) in
-    record {
-      board = record { least = b .least; most = b .most; whole = eqb-true n (cells s) (not-false _ (k .1 .0)) };
-      inside = ltb-true g (groups s) (not-false _ (k .1 .1 .0));
-    }
-
--- what an answer leaves
-pub left-old : {A : Type 0} (a r : Answer) (new old : A) → r ≡ a → (r .number ≡ 0 → ⊥) → whereAccepted a new old ≡ old
-left-old a r new old e h = rw (ne-eqb (a .number) 0 (λ z. h (ap (λ (b : Answer). b .number) e ∙ z)))
-
-pub left-new : {A : Type 0} (a r : Answer) (new old : A) → r ≡ a → r .number ≡ 0 → whereAccepted a new old ≡ new
-left-new a r new old e h = rw (eq-eqb (a .number) 0 (sym (ap (λ (b : Answer). b .number) e) ∙ h))
 
 pub entry-refused : (a : Answer) (rs : List Run) (result words log : List ℕ) (r : Answer) → r ≡ a → (r .number ≡ 0 → ⊥) → Entry a rs result words log r words log
 entry-refused a rs result words log r e h =

@@ -1,15 +1,13 @@
 -- Where an entry accepts, the lane holds the result.
-use Prim.Native.Nat.{ℕ, _+_, _*_, _≤_}
+use Prim.Native.Nat.{ℕ}
 use mathlib.Core.Path.{_≡_}
 use mathlib.Core.List.{List}
-use native.Mathlib.Nat.{mul-le-mul-right, suc-mul}
 use lib.IntN.{ℤ}
 use lib.ListN.{length}
 use lib.Seq.{sets}
 use Rattle.answers.specs.declared.Answer.{Answer}
 use Rattle.shifts.specs.declared.Axis.{Axis}
 use Rattle.shifts.specs.declared.Edge.{Edge}
-use Rattle.array.specs.Cells.{groups}
 use Rattle.logs.specs.Runs.{codes}
 use Rattle.lists.specs.Lists.{broadcastRuns, dataSumRuns, prefixSumRuns}
 use Rattle.shifts.specs.Shifts.{shiftRuns}
@@ -18,7 +16,7 @@ use Rattle.spreads.specs.Results.{broadcastLane, dataSumLane}
 use Rattle.prefix.specs.Results.{prefixSumLane}
 use Rattle.slides.specs.Results.{shiftLane}
 use Rattle.words.specs.Entries.{broadcastAnswer, dataSumAnswer, prefixSumAnswer, shiftAnswer, Broadcast, DataSum, PrefixSum, Shift}
-use Rattle.words.proofs.Answering.{data-sum-room, prefix-sum-room, broadcast-room, shift-room, GroupRoom, entry-done}
+use Rattle.words.proofs.Answering.{data-sum-room, prefix-sum-room, broadcast-room, shift-room, entry-done}
 
 module _ (s : ℕ) (words log words′ log′ : List ℕ) (r : Answer) where
   pub data-sum-done : r ≡ dataSumAnswer s (length words) (length log) → r .number ≡ 0 → words′ ≡ dataSumLane s words
@@ -44,7 +42,3 @@ module _ (s : ℕ) (words log words′ log′ : List ℕ) (r : Answer) where
   shift-done axis edge k e h x c =
       let z = shift-room s axis edge k (length words) (length log) r e h in
       entry-done _ _ _ words log r words′ log′ e h (z .known .room) (rw (board-is s (length words) (z .known .board), z .near) at x) c
-
--- a group's stretch is inside the lane
-pub group-inside : (s g n : ℕ) → GroupRoom s g n → g * groups s + groups s ≤ n
-group-inside s g n z = rw (z .board .whole, ← suc-mul) (mul-le-mul-right (groups s) (z .inside))

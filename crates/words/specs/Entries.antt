@@ -4,8 +4,7 @@ use mathlib.Core.Path.{_≡_}
 use mathlib.Core.Bool.{not}
 use mathlib.Core.List.{List, [], _∷_, _++_}
 use lib.IntN.{ℤ}
-use lib.Dec.{ltb}
-use lib.ListN.{length, take, drop}
+use lib.ListN.{length, drop}
 use Rattle.answers.specs.declared.Answer.{Answer}
 use Rattle.answers.specs.declared.Case.{Case}
 use Rattle.logs.specs.declared.Run.{Run}
@@ -13,7 +12,7 @@ use Rattle.shifts.specs.declared.Axis.{Axis}
 use Rattle.shifts.specs.declared.Edge.{Edge}
 use Rattle.shifts.specs.declared.Edge.the-variants.{ZeroFill, Circular}
 use Rattle.shifts.specs.declared.Distance.{Distance}
-use Rattle.array.specs.Cells.{groups, cell, isCell}
+use Rattle.array.specs.Cells.{isCell}
 use Rattle.logs.specs.Runs.{moves, codes}
 use Rattle.lists.specs.Lists.{broadcastRuns, dataSumRuns, prefixSumRuns}
 use Rattle.shifts.specs.Shifts.{distanceOf, within, swapsOf, shiftRuns}
@@ -22,15 +21,12 @@ use Rattle.spreads.specs.Results.{broadcastWords, dataSumWords}
 use Rattle.prefix.specs.Results.{prefixSumWords}
 use Rattle.slides.specs.Results.{shiftWords}
 
--- 4: there is no such cell; the distance is not within the side; there is no such group
+-- 4: there is no such cell; the distance is not within the side
 abbrev pub cellCase : ℕ → ℕ → Case
 cellCase s i = record { applies = not (isCell s i); number = 4; place = 0 }
 
 abbrev pub distanceCase : ℕ → ℤ → Case
 distanceCase s k = record { applies = not (within s (distanceOf k)); number = 4; place = 0 }
-
-abbrev pub groupCase : ℕ → ℕ → Case
-groupCase s g = record { applies = not (ltb g (groups s)); number = 4; place = 0 }
 
 -- how many electronic moves a shift makes
 abbrev pub shiftElectronic : Edge → ℕ → Distance → ℕ
@@ -52,9 +48,6 @@ abbrev pub shiftAnswer : ℕ → Axis → Edge → ℤ → ℕ → ℕ → Answe
 shiftAnswer s axis edge k n log =
     verdict (sideCase s ∷ laneCase s n ∷ logCase (shiftRuns s axis edge k) log ∷ distanceCase s k ∷ [])
     (accepted (shiftElectronic edge s (distanceOf k)) (2 * swapsOf axis))
-
-abbrev pub groupAnswer : ℕ → ℕ → ℕ → Answer
-groupAnswer s g n = verdict (sideCase s ∷ laneCase s n ∷ groupCase s g ∷ []) (accepted 0 0)
 
 -- a log with the codes of a list in front, and its tail as it was
 abbrev pub logged : List Run → List ℕ → List ℕ
@@ -78,7 +71,3 @@ PrefixSum s words log = Entry (prefixSumAnswer s (length words) (length log)) (p
 abbrev pub Shift : ℕ → Axis → Edge → ℤ → List ℕ → List ℕ → Answer → List ℕ → List ℕ → Type 0
 Shift s axis edge k words log =
     Entry (shiftAnswer s axis edge k (length words) (length log)) (shiftRuns s axis edge k) (shiftWords s axis edge k words) words log
-
--- the stretch of group g, and an empty one where the answer refuses
-abbrev pub groupWords : ℕ → ℕ → List ℕ → List ℕ
-groupWords s g words = whereAccepted (groupAnswer s g (length words)) (take (groups s) (drop (cell s g 0) words)) []

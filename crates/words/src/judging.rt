@@ -1,12 +1,9 @@
 // How the entries on words answer: the cases of each in the order of their numbers.
 use answers::Answer;
 use answers::Case;
-use answers::accepted;
 use answers::accepted_by;
 use answers::checked;
-use answers::lane_case;
 use answers::refusing;
-use answers::side_case;
 use array::cells::is_cell;
 use lists::broadcast_runs;
 use lists::data_sum_runs;
@@ -17,9 +14,7 @@ use shifts::distance_of;
 use shifts::is_within;
 use shifts::shift_runs;
 ghost use mathlib.Core.Path.{_≡_};
-ghost use lib.Dec.{ltb};
-ghost use Rattle.array.specs.Cells.{groups};
-ghost use Rattle.words.specs.Entries.{cellCase, distanceCase, groupCase, broadcastAnswer, dataSumAnswer, prefixSumAnswer, shiftAnswer, groupAnswer};
+ghost use Rattle.words.specs.Entries.{cellCase, distanceCase, broadcastAnswer, dataSumAnswer, prefixSumAnswer, shiftAnswer};
 
 fn cell_case(side: usize, cell: usize) -> Case
     ensures { λ r. ⌜ r ≡ cellCase side cell ⌝ }
@@ -36,26 +31,6 @@ fn distance_case(side: usize, k: i32) -> Case
 {
     Case {
         applies: !is_within(side, distance_of(k)),
-        number: 4,
-        place: 0,
-    }
-}
-
-// There are side × side groups; a side above 2^32 − 1 has more than there are numbers.
-fn is_group(side: usize, group: usize) -> bool
-    ensures { λ r. ⌜ r ≡ ltb group (groups side) ⌝ }
-{
-    if 4294967295 < side {
-        return true;
-    }
-    group < side * side
-}
-
-fn group_case(side: usize, group: usize) -> Case
-    ensures { λ r. ⌜ r ≡ groupCase side group ⌝ }
-{
-    Case {
-        applies: !is_group(side, group),
         number: 4,
         place: 0,
     }
@@ -105,17 +80,5 @@ pub(crate) fn shift_answer(
         runs,
         log,
         refusing(distance_case(side, k), accepted_by(runs)),
-    )
-}
-
-pub(crate) fn group_answer(side: usize, group: usize, length: usize) -> Answer
-    ensures { λ r. ⌜ r ≡ groupAnswer side group length ⌝ }
-{
-    refusing(
-        side_case(side),
-        refusing(
-            lane_case(side, length),
-            refusing(group_case(side, group), accepted(0, 0)),
-        ),
     )
 }

@@ -1,9 +1,8 @@
-// The operations that use words only: broadcast, data sum, prefix sum and the eight shifts, and a group's own stretch of words.
+// The operations that use words only: broadcast, data sum, prefix sum and the eight shifts.
 mod judging;
 
 use crate::judging::broadcast_answer;
 use crate::judging::data_sum_answer;
-use crate::judging::group_answer;
 use crate::judging::prefix_sum_answer;
 use crate::judging::shift_answer;
 use answers::Answer;
@@ -18,9 +17,7 @@ use shifts::shift_runs;
 use slides::shift_words;
 use spreads::broadcast_words;
 use spreads::data_sum_words;
-ghost use mathlib.Core.Path.{_≡_};
-ghost use lib.ListN.{length};
-ghost use Rattle.words.specs.Entries.{Broadcast, DataSum, PrefixSum, Shift, groupAnswer, groupWords};
+ghost use Rattle.words.specs.Entries.{Broadcast, DataSum, PrefixSum, Shift};
 
 // Every word becomes that of a cell.
 pub fn broadcast(side: usize, cell: usize, words: &mut [u32], codes: &mut [u8]) -> Answer
@@ -79,24 +76,4 @@ pub fn shift(
     shift_words(side, axis, edge, k, words);
     write_codes(shift_runs(side, axis, edge, k), codes, 0);
     answer
-}
-
-// The caller's own stretch of words of a group, or an empty one where that is refused.
-pub fn group_words(side: usize, group: usize, words: &mut [u32]) -> &mut [u32]
-    ensures { λ r. ⌜ now r ≡ groupWords side group (now (words .entry)) ⌝ }
-{
-    let answer = group_answer(side, group, words.len());
-    if answer.number != 0 {
-        return &mut words[..0];
-    }
-    let n = side * side;
-    let start = group * n;
-    &mut words[start..start + n]
-}
-
-// The number and the place of the same.
-pub fn group_words_answer(side: usize, group: usize, words: &[u32]) -> Answer
-    ensures { λ r. ⌜ r ≡ groupAnswer side group (length (now (words .entry))) ⌝ }
-{
-    group_answer(side, group, words.len())
 }

@@ -9,8 +9,8 @@ use Rattle.trials.proofs.group_words.Lts as lts
 use Rattle.io.proofs.write_all.Reads as write-all-reads
 use Rattle.trials.proofs.show_answer.Reads as show-answer-reads
 use Rattle.trials.proofs.show_part.Reads as show-part-reads
-use Rattle.words.proofs.group_words.Reads as group-words-reads
-use Rattle.words.proofs.group_words_answer.Reads as group-words-answer-reads
+use Rattle.stretches.proofs.group_words.Reads as group-words-reads
+use Rattle.stretches.proofs.group_words_answer.Reads as group-words-answer-reads
 
 slice-aggregate-write-all : tie.Need-slice-aggregate-write-all
 slice-aggregate-write-all c = search needs

@@ -1,12 +1,12 @@
--- `words::judging::group_answer` meets its contract: the three cases in their order.
+-- `stretches::group_answer` meets its contract: the three cases in their order.
 use mathlib.Core.Path.{_∙_, ap}
 use mathlib.Core.List.{[], _∷_}
 use Rattle.answers.specs.Answers.{verdict, sideCase, laneCase}
-use Rattle.words.specs.Entries.{groupCase}
-use Rattle.words.proofs.Answering.{three-cases}
+use Rattle.stretches.specs.Stretches.{groupCase}
+use Rattle.answers.proofs.Verdicts.{three-cases}
 use borrow.Author.Needs.{needs}
-use Rattle.words.proofs.judging.group_answer.Statement.{statement}
-use Rattle.words.proofs.judging.group_answer.Tie as tie
+use Rattle.stretches.proofs.group_answer.Statement.{statement}
+use Rattle.stretches.proofs.group_answer.Tie as tie
 
 side-case-requires : tie.Need-side-case-requires
 side-case-requires c κs = search needs

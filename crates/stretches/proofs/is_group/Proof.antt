@@ -1,12 +1,12 @@
--- `words::judging::is_group` meets its contract: a side of 33 bits has more groups than there are numbers.
+-- `stretches::is_group` meets its contract: a side of 33 bits has more groups than there are numbers.
 use Rattle.array.specs.Cells.{groups}
 use mathlib.Core.Path.{sym}
 use native.Mathlib.Omega.{arith}
 use borrow.Author.Tests.{lt-ltb}
 use Rattle.laws.proofs.Numbers.{square-grows}
 use borrow.Author.Needs.{needs}
-use Rattle.words.proofs.judging.is_group.Statement.{statement}
-use Rattle.words.proofs.judging.is_group.Tie as tie
+use Rattle.stretches.proofs.is_group.Statement.{statement}
+use Rattle.stretches.proofs.is_group.Tie as tie
 
 returns : tie.Need-returns
 returns c = sym (lt-ltb (c .before .args .group) (groups (c .before .args .side)) (omega (arith, square-grows {a = 4294967296} (c .if1 .taken), c .before .fits .group .fits)))

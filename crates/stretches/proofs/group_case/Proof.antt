@@ -1,7 +1,7 @@
--- `words::judging::group_case` meets its contract: the test is `is_group`.
+-- `stretches::group_case` meets its contract: the test is `is_group`.
 use borrow.Author.Needs.{needs}
-use Rattle.words.proofs.judging.group_case.Statement.{statement}
-use Rattle.words.proofs.judging.group_case.Tie as tie
+use Rattle.stretches.proofs.group_case.Statement.{statement}
+use Rattle.stretches.proofs.group_case.Tie as tie
 
 is-group-requires : tie.Need-is-group-requires
 is-group-requires c κs = search needs

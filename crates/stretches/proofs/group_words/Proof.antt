@@ -1,4 +1,4 @@
--- `words::group_words` meets its contract: the stretch lies inside the lane where the answer accepts.
+-- `stretches::group_words` meets its contract: the stretch lies inside the lane where the answer accepts.
 use lib.ListN.{length, take, drop}
 use Prim.Native.Nat.{_+_, _-_}
 use mathlib.Core.Path.{_≡_}
@@ -6,12 +6,11 @@ use Prim.Native.Nat.{_*_}
 use mathlib.Core.Path.{_∙_, sym, ap}
 use native.Mathlib.Omega.{arith}
 use Rattle.array.specs.Cells.{groups}
-use Rattle.words.proofs.Answering.{group-room, left-old, left-new}
-use Rattle.lanes.proofs.Held.{sizes}
-use Rattle.words.proofs.Entering.{group-inside}
+use Rattle.answers.proofs.Verdicts.{left-old, left-new}
+use Rattle.stretches.proofs.Inside.{group-room, group-inside}
 use borrow.Author.Needs.{needs}
-use Rattle.words.proofs.group_words.Statement.{statement}
-use Rattle.words.proofs.group_words.Tie as tie
+use Rattle.stretches.proofs.group_words.Statement.{statement}
+use Rattle.stretches.proofs.group_words.Tie as tie
 
 group-answer-requires : tie.Need-group-answer-requires
 group-answer-requires c κs = search needs
@@ -23,7 +22,7 @@ returns : tie.Need-returns
 returns c = sym (left-old _ _ _ _ (c .before .before .before .group-answer .ensures) (c .before .if1 .taken))
 
 mul-n : tie.Need-mul-n
-mul-n c = omega (arith, sizes {s = (c .before .before .before .before .args .side)} {n = length (c .before .before .before .before .args .words .now)} (group-room (c .before .before .before .before .args .side) (c .before .before .before .before .args .group) (length (c .before .before .before .before .args .words .now)) _ (c .before .before .group-answer .ensures) (c .if1 .left) .board) .groups-few)
+mul-n c = omega (arith, group-room (c .before .before .before .before .args .side) (c .before .before .before .before .args .group) (length (c .before .before .before .before .args .words .now)) _ (c .before .before .group-answer .ensures) (c .if1 .left) .side .groups-few)
 
 mul-start : tie.Need-mul-start
 mul-start c = omega (arith, group-inside (c .before .before .before .before .args .side) (c .before .before .before .before .args .group) (length (c .before .before .before .before .args .words .now)) (group-room (c .before .before .before .before .args .side) (c .before .before .before .before .args .group) (length (c .before .before .before .before .args .words .now)) _ (c .before .before .group-answer .ensures) (c .if1 .left)))
