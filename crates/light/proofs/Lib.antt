@@ -1,3 +1,4 @@
+pub mod Groups
 pub mod Leaving
 pub mod Partners
 pub mod Turning

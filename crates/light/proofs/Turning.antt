@@ -1,4 +1,4 @@
--- The swap of a lane as it is made: turn after turn, each cell trades with its partner where that comes later. One law for the three widths.
+-- The swap of a lane as it is made: turn after turn, each cell trades with its partner where that comes later. One law for marks and aims.
 use Prim.Native.Nat.{ℕ, _+_, _≤_, _<_}
 use mathlib.Core.Path.{_≡_, refl, sym, _∙_}
 use mathlib.Core.Bool.{true, false}
@@ -30,7 +30,7 @@ board-few s n h = omega (arith, board-cells s n h, board-known s n h .cells-few)
 pub not-swapped : (s : ℕ) (l : List ℕ) → isBoard s (length l) ≡ false → l ≡ swappedLane s l
 not-swapped s l h = rw h
 
-paired : (s : ℕ) → Side s → Paired (cells s) (partner s)
+pub paired : (s : ℕ) → Side s → Paired (cells s) (partner s)
 paired s h = record { inside = partner-in (h .least); twice = partner-twice (h .least) }
 
 -- j turns of n were made, and p is the partner of cell j

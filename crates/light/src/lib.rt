@@ -8,9 +8,9 @@ ghost use mathlib.Core.Path.{_≡_};
 ghost use mathlib.Core.Bool.{true};
 ghost use Prim.Native.Nat.{ℕ, _+_, _≤_, _<_};
 ghost use lib.ListN.{length, getD};
-ghost use Rattle.array.specs.Cells.{isSide, cells, partner};
+ghost use Rattle.array.specs.Cells.{isSide, groups, cells, cell, partner};
 ghost use Rattle.light.specs.Lane.{isBoard, swappedLane};
-ghost use Rattle.light.specs.Inside.{Listed};
+ghost use Rattle.light.specs.Inside.{Listed, GroupTurned};
 
 // A lane of n entries is one of a board.
 pub fn is_board(side: usize, n: usize) -> bool
@@ -45,23 +45,50 @@ pub(crate) fn next(side: usize, list: &[u16], j: usize, p: usize) -> usize
     if on < cells { on } else { on - cells + 1 }
 }
 
-// Each cell trades with its partner, where that comes later.
+// The partner of cell p of group g: by the link list, where it has every cell, and else cell g of group p.
+fn across(side: usize, list: &[u16], g: usize, p: usize) -> usize
+    requires { ⌜ isSide side ≡ true ⌝ }
+    requires { ⌜ Listed side (now list) ⌝ }
+    requires { ⌜ (g < groups side) × (p < groups side) ⌝ }
+    ensures { λ r. ⌜ r ≡ partner side (cell side g p) ⌝ }
+{
+    let groups = side * side;
+    if list.len() < groups * groups {
+        return p * groups + g;
+    }
+    wide(list[g * groups + p])
+}
+
+// The turn of group g: its cells trade with their partners, where these come later. They are those past place g.
+fn trade_group(side: usize, list: &[u16], g: usize, lane: &mut [u32])
+    requires { ⌜ isBoard side (length (now lane)) ≡ true ⌝ }
+    requires { ⌜ Listed side (now list) ⌝ }
+    requires { ⌜ g < groups side ⌝ }
+    ensures { λ _. ⌜ GroupTurned side g (now (lane .entry)) (now (lane .exit)) ⌝ }
+{
+    let groups = side * side;
+    let mut p: usize = g + 1;
+    while p < groups {
+        let j = g * groups + p;
+        let q = across(side, list, g, p);
+        let word = lane[j];
+        lane[j] = lane[q];
+        lane[q] = word;
+        p += 1;
+    }
+}
+
+// Each cell trades with its partner, where that comes later: one group after the other.
 fn trade_words(side: usize, list: &[u16], lane: &mut [u32])
     requires { ⌜ isBoard side (length (now lane)) ≡ true ⌝ }
     requires { ⌜ Listed side (now list) ⌝ }
     ensures { λ _. ⌜ now (lane .exit) ≡ swappedLane side (now (lane .entry)) ⌝ }
 {
-    let n = lane.len();
-    let mut p: usize = 0;
-    let mut j: usize = 0;
-    while j < n {
-        if j < p {
-            let word = lane[j];
-            lane[j] = lane[p];
-            lane[p] = word;
-        }
-        p = next(side, list, j, p);
-        j += 1;
+    let groups = side * side;
+    let mut g: usize = 0;
+    while g < groups {
+        trade_group(side, list, g, lane);
+        g += 1;
     }
 }
 

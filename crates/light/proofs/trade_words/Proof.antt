@@ -1,62 +1,41 @@
--- `light::trade_words` meets its contract: turn after turn each cell trades with its partner where that comes later.
+-- `light::trade_words` meets its contract: one group after the other has its turn.
 use Prim.Native.Nat.{_-_}
-use mathlib.Core.Logic.{inl, inr, ⊎-elim}
 use native.Mathlib.Omega.{arith}
-use lib.ListN.{length, length-set}
-use Rattle.light.proofs.Turning.{Turning, board-side, turning-start, turning-few, turning-long, turning-inside, turning-partner, turning-turn, turning-end}
+use lib.ListN.{length}
+use Rattle.light.proofs.Turning.{board-known}
+use Rattle.light.proofs.Groups.{Rounds, rounds-start, rounds-long, rounds-board, rounds-turn, rounds-end}
 use Rattle.light.proofs.trade_words.Statement.{statement}
 use Rattle.light.proofs.trade_words.Tie as tie
 
 abbrev Inv-loop : tie.InvT-loop
-Inv-loop side list lane₀ n p₀ j₀ lane p j = Turning side n j p lane₀ lane
+Inv-loop side list lane₀ groups g₀ lane g = Rounds side g lane₀ lane
 
 abbrev μ-loop : tie.MeasureT-loop
-μ-loop side list lane₀ n p₀ j₀ lane p j = n - j
+μ-loop side list lane₀ groups g₀ lane g = groups - g
+
+mul-groups : tie.Need-mul-groups Inv-loop μ-loop
+mul-groups c = omega (arith, board-known (c .before .before .args .side) (length (c .before .before .args .lane .now)) (c .before .before .pre .0) .groups-few)
 
 loop-holds : tie.Need-loop-holds Inv-loop μ-loop
-loop-holds c = turning-start (c .before .before .args .side) (c .before .before .args .lane .now) (c .before .before .pre .0)
+loop-holds c = rounds-start (c .before .before .args .side) (c .before .before .args .lane .now) (c .before .before .pre .0)
 
-mul-word : tie.Need-mul-word Inv-loop μ-loop
-mul-word c = omega (arith, turning-few (c .before .before .loop .inv))
+trade-group-requires : tie.Need-trade-group-requires Inv-loop μ-loop
+trade-group-requires c κs = (rounds-board (c .before .before .loop .inv), (c .before .before .before .before .before .pre .1, c .before .loop-test .taken))
 
-slice-read-word : tie.Need-slice-read-word Inv-loop μ-loop
-slice-read-word c = omega (arith, turning-long (c .before .before .before .loop .inv), c .before .before .loop-test .taken)
-
-mul-lane : tie.Need-mul-lane Inv-loop μ-loop
-mul-lane c = omega (arith, turning-few (c .before .before .before .loop .inv), turning-partner (c .before .before .before .loop .inv) (c .before .before .loop-test .taken))
-
-slice-read-lane : tie.Need-slice-read-lane Inv-loop μ-loop
-slice-read-lane c = omega (arith, turning-long (c .before .before .before .before .loop .inv), turning-partner (c .before .before .before .before .loop .inv) (c .before .before .before .loop-test .taken))
-
-mul-lane-2 : tie.Need-mul-lane-2 Inv-loop μ-loop
-mul-lane-2 c = omega (arith, turning-few (c .before .before .before .before .loop .inv))
-
-slice-write-lane : tie.Need-slice-write-lane Inv-loop μ-loop
-slice-write-lane c = omega (arith, turning-long (c .before .before .before .before .loop .inv), c .before .before .before .loop-test .taken)
-
-mul-lane-3 : tie.Need-mul-lane-3 Inv-loop μ-loop
-mul-lane-3 c = omega (arith, turning-few (c .before .before .before .before .loop .inv), turning-partner (c .before .before .before .before .loop .inv) (c .before .before .before .loop-test .taken))
-
-slice-write-lane-2 : tie.Need-slice-write-lane-2 Inv-loop μ-loop
-slice-write-lane-2 c = simp length-set (omega (arith, turning-long (c .before .before .before .before .loop .inv), turning-partner (c .before .before .before .before .loop .inv) (c .before .before .before .loop-test .taken)))
-
-next-requires : tie.Need-next-requires Inv-loop μ-loop
-next-requires c κs = (board-side (c .before .before .before .before .before .args .side) (length (c .before .before .before .before .before .args .lane .now)) (c .before .before .loop .inv .board), (c .before .before .before .before .before .pre .1, (turning-inside (c .before .before .loop .inv) (c .before .loop-test .taken), c .before .before .loop .inv .is)))
-
-add-j : tie.Need-add-j Inv-loop μ-loop
-add-j c = omega (arith, turning-few (c .before .before .before .loop .inv), c .before .before .loop-test .taken)
+add-g : tie.Need-add-g Inv-loop μ-loop
+add-g c = omega (arith, c .before .before .before .before .loop-test .taken, board-known (c .before .before .before .before .before .before .before .before .args .side) (length (c .before .before .before .before .before .before .before .before .args .lane .now)) (c .before .before .before .before .before .before .before .before .pre .0) .groups-few)
 
 loop-less : tie.Need-loop-less Inv-loop μ-loop
-loop-less c = omega (arith, c .before .before .loop-test .taken)
+loop-less c = omega (arith, c .before .before .before .before .loop-test .taken)
 
 loop-again : tie.Need-loop-again Inv-loop μ-loop
-loop-again c = turning-turn (c .before .before .before .loop .inv) _ _ (c .before .before .loop-test .taken) (c .next .ensures) (⊎-elim (λ w. inl (w .0 .taken, w .3)) (λ w. inr (w .0 .left, w .1)) (c .before .if1 .came))
+loop-again c = rounds-turn (c .before .before .before .before .before .loop .inv) (c .before .before .before .before .loop-test .taken) (c .before .before .trade-group .ensures)
 
 same-length : tie.Need-same-length Inv-loop μ-loop
-same-length c = turning-long (c .before .loop .inv)
+same-length c = rounds-long (c .before .loop .inv)
 
 returns : tie.Need-returns Inv-loop μ-loop
-returns c = turning-end (c .before .loop .inv) (c .loop-test .left)
+returns c = rounds-end (c .before .loop .inv) (c .loop-test .left)
 
 pub trade-words-spec : {M : Type 1} → statement M
 trade-words-spec =
@@ -64,17 +43,10 @@ trade-words-spec =
     (tie.spec
     Inv-loop
     μ-loop
+    mul-groups
     loop-holds
-    mul-word
-    slice-read-word
-    mul-lane
-    slice-read-lane
-    mul-lane-2
-    slice-write-lane
-    mul-lane-3
-    slice-write-lane-2
-    next-requires
-    add-j
+    trade-group-requires
+    add-g
     loop-less
     loop-again
     same-length
