@@ -27,7 +27,7 @@ module _ (marks : List ℕ) where
     so-far = z .so-far ∙ ap (firstBad i) (drop-cons marks i 0 h) ∙ rw (lt-ltb (getD marks i 0) 2 g, add-one i);
   }
 
-  case-at : (i : ℕ) (t : Bool) → firstBad 0 marks ≡ i → ltb i (length marks) ≡ t → _≡_ {A = Case} (record { applies = t; number = 5; place = i }) (marksCase marks)
+  pub case-at : (i : ℕ) (t : Bool) → firstBad 0 marks ≡ i → ltb i (length marks) ≡ t → _≡_ {A = Case} (record { applies = t; number = 5; place = i }) (marksCase marks)
   case-at i t e h = rw e (rw h)
 
   -- a bad mark, and none
@@ -60,7 +60,7 @@ pub good-marks : (marks : List ℕ) → marksCase marks .applies ≡ false → (
 good-marks marks h k l = good-from 0 marks (omega (arith, ltb-false (firstBad 0 marks) (length marks) h)) k l
 
 -- and where every mark is 0 or 1 it does not apply
-passed-from : (i : ℕ) (ms : List ℕ) → ((k : ℕ) → k < length ms → getD ms k 0 < 2) → firstBad i ms ≡ i + length ms
+pub passed-from : (i : ℕ) (ms : List ℕ) → ((k : ℕ) → k < length ms → getD ms k 0 < 2) → firstBad i ms ≡ i + length ms
 passed-from i [] h = omega arith
 passed-from i (m ∷ ms) h =
     rw (lt-ltb m 2 (h 0 (omega arith)))

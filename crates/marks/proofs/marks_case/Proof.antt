@@ -1,48 +1,20 @@
--- `marks::marks_case` meets its contract: the cells passed are good, and the first that is not is the one named.
-use Prim.Native.Nat.{_-_}
-use lib.ListN.{length}
+-- `marks::marks_case` meets its contract: where the greatest mark is 0 or 1 no mark is bad.
 use borrow.Author.Needs.{needs}
-use Rattle.marks.proofs.Checked.{Passed, passed-start, passed-next, passed-bad, passed-all}
+use Rattle.marks.proofs.Bounded.{all-good}
 use Rattle.marks.proofs.marks_case.Statement.{statement}
 use Rattle.marks.proofs.marks_case.Tie as tie
 
-abbrev Inv-loop : tie.InvT-loop
-Inv-loop marks i₀ i = Passed marks i
+greatest-requires : tie.Need-greatest-requires
+greatest-requires c κs = search needs
 
-abbrev μ-loop : tie.MeasureT-loop
-μ-loop marks i₀ i = length marks - i
+returns : tie.Need-returns
+returns c = all-good (search needs) (c .before .greatest .ensures)
 
-loop-holds : tie.Need-loop-holds Inv-loop μ-loop
-loop-holds c = passed-start _
+search-requires : tie.Need-search-requires
+search-requires c κs = search needs
 
-shared-slice-read-if1 : tie.Need-shared-slice-read-if1 Inv-loop μ-loop
-shared-slice-read-if1 c = search needs
-
-returns : tie.Need-returns Inv-loop μ-loop
-returns c = passed-bad _ (c .before .before .before .loop .i) (search needs) (search needs) (c .before .before .before .loop .inv)
-
-add-i : tie.Need-add-i Inv-loop μ-loop
-add-i c = search needs
-
-loop-less : tie.Need-loop-less Inv-loop μ-loop
-loop-less c = search needs
-
-loop-again : tie.Need-loop-again Inv-loop μ-loop
-loop-again c = passed-next _ (c .before .before .before .loop .i) (search needs) (search needs) (c .before .before .before .loop .inv)
-
-returns-2 : tie.Need-returns-2 Inv-loop μ-loop
-returns-2 c = passed-all _ (c .before .loop .i) (search needs) (c .before .loop .inv)
+returns-2 : tie.Need-returns-2
+returns-2 c = search needs
 
 pub marks-case-spec : {M : Type 1} → statement M
-marks-case-spec =
-    tie.close
-    (tie.spec
-    Inv-loop
-    μ-loop
-    loop-holds
-    shared-slice-read-if1
-    returns
-    add-i
-    loop-less
-    loop-again
-    returns-2)
+marks-case-spec = tie.close (tie.spec greatest-requires returns search-requires returns-2)
