@@ -1,1 +1,2 @@
+pub mod Balancing
 pub mod Renewing

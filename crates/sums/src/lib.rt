@@ -40,3 +40,24 @@ pub fn combine(how: Combining, to: &mut [u32], from: &[u32])
         i += 1;
     }
 }
+
+// A lane's words are added and another's taken off, in one pass where both are as long; else what combine would leave.
+pub fn balance(to: &mut [u32], more: &[u32], less: &[u32])
+    ensures { λ _. ⌜ now (to .exit) ≡ combinedWords Combining.Minus (combinedWords Combining.Plus (now (to .entry)) (now (more .entry))) (now (less .entry)) ⌝ }
+{
+    let n = to.len();
+    if n != more.len() {
+        combine(Combining::Minus, to, less);
+        return;
+    }
+    if n != less.len() {
+        combine(Combining::Plus, to, more);
+        return;
+    }
+    let mut i = 0;
+    while i < n {
+        let v = combined(Combining::Minus, plus(to[i], more[i]), less[i]);
+        to[i] = v;
+        i += 1;
+    }
+}
