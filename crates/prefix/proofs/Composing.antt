@@ -1,6 +1,6 @@
 -- How the parts of the code make up the nine steps.
 use Prim.Native.Nat.{ℕ, _-_, _^_, _<_}
-use mathlib.Core.Path.{_≡_, _∙_}
+use mathlib.Core.Path.{_≡_, refl, _∙_}
 use mathlib.Core.Bool.{true}
 use mathlib.Core.List.{List}
 use native.Mathlib.Omega.{arith}
@@ -11,7 +11,7 @@ use Rattle.light.specs.Lane.{isBoard, swappedLane}
 use Rattle.lanes.specs.declared.Joining.the-variants.{Add, Copy}
 use Rattle.sums.specs.declared.Combining.the-variants.{Take, Plus, Minus}
 use Rattle.lanes.specs.Machine.{State, load}
-use Rattle.sums.specs.Sums.{combinedWords}
+use Rattle.sums.specs.Sums.{plus, minus, combinedWords}
 use Rattle.lanes.specs.Runs.{ranWords}
 use Rattle.lanes.specs.Inside.{Board, Lane, Moves, swapped}
 use Rattle.lanes.proofs.Held.{board-known, lane-load, lane-words, ran-lane, swapped-lane, combined-lane}
@@ -41,16 +41,21 @@ group-sums s {c} {a} {a₁} {a′} {y} {y₁} {y′} ta sw ty ry tz rz = record 
     cy : (C A Y : State ℕ) → Lane s c C → Lane s a A → Lane s y Y → Lane s y′ (summed s Right (swapped C))
     cy C A Y hc ha hy = sums s Right ry (combined-lane s Take ty hy (ca C A hc ha))
 
-pub modify-moves : (s : ℕ) {a y z z₁ z₂ z₃ z₄ z₅ : List ℕ} → z₁ ≡ combinedWords Minus z y → z₂ ≡ ranWords s Left Copy (s - 1) (s - 1) z₁
-    → z₃ ≡ combinedWords Plus z₂ y → z₄ ≡ combinedWords Minus z₃ a → z₅ ≡ swappedLane s z₄ → Modified s a y z z₅
-modify-moves s e₁ x e₃ e₄ e₅ = record {
-  so = λ A Y Z ha hy hz. swapped-lane s e₅ (combined-lane s Minus e₄ (combined-lane s Plus e₃ (copies s Left x (combined-lane s Minus e₁ hz hy)) hy) ha);
+-- one lane added and another taken off
+balanced : (s : ℕ) {l m k l′ : List ℕ} {σ τ υ : State ℕ} → l′ ≡ combinedWords Minus (combinedWords Plus l m) k → Lane s l σ → Lane s m τ → Lane s k υ
+    → Lane s l′ (λ c d a b. minus (plus (σ c d a b) (τ c d a b)) (υ c d a b))
+balanced s e hl hm hk = combined-lane s Minus e (combined-lane s Plus refl hl hm) hk
+
+pub modify-moves : (s : ℕ) {a y z z₁ z₂ z₃ z₄ : List ℕ} → z₁ ≡ combinedWords Minus z y → z₂ ≡ ranWords s Left Copy (s - 1) (s - 1) z₁
+    → z₃ ≡ combinedWords Minus (combinedWords Plus z₂ y) a → z₄ ≡ swappedLane s z₃ → Modified s a y z z₄
+modify-moves s e₁ x e₃ e₄ = record {
+  so = λ A Y Z ha hy hz. swapped-lane s e₄ (balanced s e₃ (copies s Left x (combined-lane s Minus e₁ hz hy)) hy ha);
 }
 
-pub finish-moves : (s : ℕ) {r c z z₁ z₂ z₃ z₄ r′ : List ℕ} → z₁ ≡ ranWords s Up Copy (s - 1) (s - 1) z → z₂ ≡ combinedWords Plus z₁ c
-    → z₃ ≡ combinedWords Minus z₂ r → z₄ ≡ ranWords s Left Copy (s - 1) (s - 1) z₃ → r′ ≡ combinedWords Plus r z₄ → Finished s r c z r′
-finish-moves s x e₂ e₃ y e₄ = record {
-  so = λ R C M hr hc hm. combined-lane s Plus e₄ hr (copies s Left y (combined-lane s Minus e₃ (combined-lane s Plus e₂ (copies s Up x hm) hc) hr));
+pub finish-moves : (s : ℕ) {r c z z₁ z₂ z₃ r′ : List ℕ} → z₁ ≡ ranWords s Up Copy (s - 1) (s - 1) z → z₂ ≡ combinedWords Minus (combinedWords Plus z₁ c) r
+    → z₃ ≡ ranWords s Left Copy (s - 1) (s - 1) z₂ → r′ ≡ combinedWords Plus r z₃ → Finished s r c z r′
+finish-moves s x e₂ y e₃ = record {
+  so = λ R C M hr hc hm. combined-lane s Plus e₃ hr (copies s Left y (balanced s e₂ (copies s Up x hm) hc hr));
 }
 
 pub prefix-lanes-moves : (s : ℕ) {r₀ r₁ r₂ c₀ c₁ a₀ a₁ y₀ y₁ z₀ z₁ z₂ : List ℕ} → RowsAndColumns s r₀ c₀ r₁ c₁ → GroupSums s c₁ a₀ y₀ z₀ a₁ y₁ z₁

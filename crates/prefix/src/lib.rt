@@ -5,10 +5,13 @@ use lanes::run;
 use light::is_board;
 use light::swap_words;
 use sums::Combining;
+use sums::balance;
 use sums::combine;
 ghost use mathlib.Core.Path.{_≡_};
+ghost use mathlib.Core.Bool.{cond};
 ghost use Prim.Native.Nat.{_≤_};
 ghost use lib.ListN.{length};
+ghost use lib.Dec.{ltb};
 ghost use Rattle.lanes.specs.Inside.{Board, Moves};
 ghost use Rattle.prefix.specs.Programs.{prefixed};
 ghost use Rattle.prefix.specs.Results.{prefixSumLane};
@@ -47,8 +50,7 @@ fn modify(a: &[u32], y: &[u32], z: &mut [u32], side: usize)
     let last = side - 1;
     combine(Combining::Minus, z, y);
     run(side, Way::Left, Joining::Copy, last, last, z);
-    combine(Combining::Plus, z, y);
-    combine(Combining::Minus, z, a);
+    balance(z, y, a);
     swap_words(side, z);
 }
 
@@ -59,8 +61,7 @@ fn finish(r: &mut [u32], c: &[u32], z: &mut [u32], side: usize)
 {
     let last = side - 1;
     run(side, Way::Up, Joining::Copy, last, last, z);
-    combine(Combining::Plus, z, c);
-    combine(Combining::Minus, z, &r[..]);
+    balance(z, c, &r[..]);
     run(side, Way::Left, Joining::Copy, last, last, z);
     combine(Combining::Plus, r, &z[..]);
 }
@@ -83,7 +84,28 @@ fn prefix_lanes(
     finish(r, &c[..], z, side);
 }
 
-// On a board of side 4 at most: to clear lanes that are much too long takes longer than the moves.
+// On a board of side 2 at most: to clear lanes that are much too long takes longer than the moves.
+fn sum_least(words: &mut [u32], side: usize)
+    requires { ⌜ Board side (length (now words)) ⌝ }
+    requires { ⌜ length (now words) ≤ 16 ⌝ }
+    ensures { λ _. ⌜ Moves side (prefixed side) (now (words .entry)) (now (words .exit)) ⌝ }
+{
+    let mut c = [0u32; 16];
+    let mut a = [0u32; 16];
+    let mut y = [0u32; 16];
+    let mut z = [0u32; 16];
+    let n = words.len();
+    prefix_lanes(
+        words,
+        &mut c[..n],
+        &mut a[..n],
+        &mut y[..n],
+        &mut z[..n],
+        side,
+    );
+}
+
+// On a board of side 4 at most.
 fn sum_few(words: &mut [u32], side: usize)
     requires { ⌜ Board side (length (now words)) ⌝ }
     requires { ⌜ length (now words) ≤ 256 ⌝ }
@@ -142,4 +164,18 @@ pub fn prefix_words(side: usize, words: &mut [u32])
         return;
     }
     sum_up(words, side);
+}
+
+// The same on a board of side 2 at most; other words stay. A function that has room for lanes of 4,096 words touches each page of it at
+// every call, which takes longer than these moves.
+pub fn prefix_least(side: usize, words: &mut [u32])
+    ensures { λ _. ⌜ now (words .exit) ≡ cond (ltb 16 (length (now (words .entry)))) (now (words .entry)) (prefixSumLane side (now (words .entry))) ⌝ }
+{
+    if 16 < words.len() {
+        return;
+    }
+    if !is_board(side, words.len()) {
+        return;
+    }
+    sum_least(words, side);
 }

@@ -4,9 +4,9 @@ use mathlib.Core.Path.{_≡_, refl, sym, ap, _∙_}
 use mathlib.Core.Bool.{Bool, true, false, cond}
 use mathlib.Core.List.{List}
 use native.Mathlib.Omega.{arith}
-use lib.Dec.{eqb}
+use lib.Dec.{eqb, ltb}
 use lib.ListN.{length, getD}
-use borrow.Author.Tests.{eqb-true, eq-eqb}
+use borrow.Author.Tests.{eqb-true, eq-eqb, le-ltb}
 use native.Mathlib.Nat.{mod-eq-of-lt}
 use Rattle.laws.specs.Sums.{sumOf}
 use Rattle.laws.specs.Tables.{entries}
@@ -16,7 +16,7 @@ use Rattle.array.proofs.Board.{side-known}
 use Rattle.light.specs.Lane.{isBoard}
 use Rattle.lanes.specs.Machine.{load, unload}
 use Rattle.prefix.specs.Programs.{prefixed}
-use Rattle.prefix.specs.Results.{prefixSumWords}
+use Rattle.prefix.specs.Results.{prefixSumWords, prefixSumLane}
 use Rattle.prefix.proofs.Adding.{prefixSum-all}
 use Rattle.ranking.specs.Inside.{Summed, Marked}
 use Rattle.ranking.specs.Ranks.{aimIn, aimOf, ranks}
@@ -60,6 +60,13 @@ summed-marks s marks sums z e = record { size = rw (sums-are, length-entries (λ
 pub summed : {s : ℕ} {marks loaded sums : List ℕ} → Marked s marks → loaded ≡ marks
     → sums ≡ cond (isBoard s (length loaded)) (prefixSumWords s loaded) loaded → Summed marks sums
 summed {s} {marks} {loaded} {sums} z l e = summed-marks s marks sums z (e ∙ ap (λ (w : List ℕ). cond (isBoard s (length w)) (prefixSumWords s w) w) l)
+
+-- the same where the sum is made only of 16 words at most
+pub summed-least : {s : ℕ} {marks loaded sums : List ℕ} → Marked s marks → length marks ≤ 16 → loaded ≡ marks
+    → sums ≡ cond (ltb 16 (length loaded)) loaded (prefixSumLane s loaded) → Summed marks sums
+summed-least {s} {marks} {loaded} {sums} z h l e =
+    let few : length loaded ≤ 16 = omega (arith, ap length l) in
+    summed z l (rw (le-ltb 16 (length loaded) few) at e)
 
 -- and then the aims are the ranks
 pub ranks-are : (s : ℕ) (marks : List ℕ) → length marks ≡ cells s → entries (aimIn marks) 0 (length marks) ≡ ranks s marks

@@ -8,6 +8,7 @@ use answers::side_case;
 use lists::prefix_sum_runs;
 use logs::write_codes;
 use marks::marks_case;
+use prefix::prefix_least;
 use prefix::prefix_words;
 ghost use mathlib.Core.Path.{_≡_};
 ghost use Prim.Native.Nat.{_≤_};
@@ -75,14 +76,65 @@ fn rank_lanes(side: usize, marks: &[u8], sums: &mut [u32], aims: &mut [u16])
     unload(marks, &sums[..], aims);
 }
 
-fn write_ranks(side: usize, marks: &[u8], aims: &mut [u16])
+// The same on a board of side 2 at most, without the room that the prefix sum has for larger ones.
+fn rank_least(side: usize, marks: &[u8], sums: &mut [u32], aims: &mut [u16])
+    requires { ⌜ Marked side (now marks) ⌝ }
+    requires { ⌜ length (now marks) ≡ length (now sums) ⌝ }
+    requires { ⌜ length (now aims) ≡ length (now marks) ⌝ }
+    requires { ⌜ length (now marks) ≤ 16 ⌝ }
+    ensures { λ _. ⌜ now (aims .exit) ≡ ranks side (now (marks .entry)) ⌝ }
+{
+    load(marks, sums);
+    prefix_least(side, sums);
+    unload(marks, &sums[..], aims);
+}
+
+// On a board of side 2 at most, of side 4 at most, and of any: the lane of sums is cleared, so it is not to be much too long.
+fn write_least(side: usize, marks: &[u8], aims: &mut [u16])
     requires { ⌜ Marked side (now marks) ⌝ }
     requires { ⌜ length (now aims) ≡ length (now marks) ⌝ }
+    requires { ⌜ length (now marks) ≤ 16 ⌝ }
+    ensures { λ _. ⌜ now (aims .exit) ≡ ranks side (now (marks .entry)) ⌝ }
+{
+    let mut sums = [0u32; 16];
+    let n = marks.len();
+    rank_least(side, marks, &mut sums[..n], aims);
+}
+
+fn write_few(side: usize, marks: &[u8], aims: &mut [u16])
+    requires { ⌜ Marked side (now marks) ⌝ }
+    requires { ⌜ length (now aims) ≡ length (now marks) ⌝ }
+    requires { ⌜ length (now marks) ≤ 256 ⌝ }
+    ensures { λ _. ⌜ now (aims .exit) ≡ ranks side (now (marks .entry)) ⌝ }
+{
+    let mut sums = [0u32; 256];
+    let n = marks.len();
+    rank_lanes(side, marks, &mut sums[..n], aims);
+}
+
+fn write_many(side: usize, marks: &[u8], aims: &mut [u16])
+    requires { ⌜ Marked side (now marks) ⌝ }
+    requires { ⌜ length (now aims) ≡ length (now marks) ⌝ }
+    requires { ⌜ length (now marks) ≤ 4096 ⌝ }
     ensures { λ _. ⌜ now (aims .exit) ≡ ranks side (now (marks .entry)) ⌝ }
 {
     let mut sums = [0u32; 4096];
     let n = marks.len();
     rank_lanes(side, marks, &mut sums[..n], aims);
+}
+
+fn write_ranks(side: usize, marks: &[u8], aims: &mut [u16])
+    requires { ⌜ Marked side (now marks) ⌝ }
+    requires { ⌜ length (now aims) ≡ length (now marks) ⌝ }
+    ensures { λ _. ⌜ now (aims .exit) ≡ ranks side (now (marks .entry)) ⌝ }
+{
+    if marks.len() <= 16 {
+        write_least(side, marks, aims);
+    } else if marks.len() <= 256 {
+        write_few(side, marks, aims);
+    } else {
+        write_many(side, marks, aims);
+    }
 }
 
 fn answer_of(side: usize, marks: &[u8], aims: usize, log: usize) -> Answer

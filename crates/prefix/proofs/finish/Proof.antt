@@ -1,6 +1,6 @@
 -- `prefix::finish` meets its contract: steps 6 to 9, one after the other.
-use Rattle.prefix.proofs.Composing.{finish-moves}
 use borrow.Author.Needs.{needs}
+use Rattle.prefix.proofs.Composing.{finish-moves}
 use Rattle.prefix.proofs.finish.Statement.{statement}
 use Rattle.prefix.proofs.finish.Tie as tie
 
@@ -10,17 +10,14 @@ sub-last c = search needs
 run-requires : tie.Need-run-requires
 run-requires c κs = search needs
 
-combine-requires : tie.Need-combine-requires
-combine-requires c κs = search needs
-
-combine-requires-2 : tie.Need-combine-requires-2
-combine-requires-2 c κs = search needs
+balance-requires : tie.Need-balance-requires
+balance-requires c κs = search needs
 
 run-requires-2 : tie.Need-run-requires-2
 run-requires-2 c κs = search needs
 
-combine-requires-3 : tie.Need-combine-requires-3
-combine-requires-3 c κs = search needs
+combine-requires : tie.Need-combine-requires
+combine-requires c κs = search needs
 
 same-length : tie.Need-same-length
 same-length c = search needs
@@ -29,7 +26,7 @@ same-length-2 : tie.Need-same-length-2
 same-length-2 c = search needs
 
 returns : tie.Need-returns
-returns c = finish-moves _ (c .before .before .before .before .before .before .before .before .before .before .before .before .before .before .before .before .before .before .before .before .run .ensures) (c .before .before .before .before .before .before .before .before .before .before .before .before .before .before .before .before .combine .ensures) (c .before .before .before .before .before .before .before .before .before .before .before .combine2 .ensures) (c .before .before .before .before .before .before .before .run2 .ensures) (c .before .before .combine3 .ensures)
+returns c = finish-moves _ (c .before .before .before .before .before .before .before .before .before .before .before .before .before .before .before .before .run .ensures) (c .before .before .before .before .before .before .before .before .before .before .before .balance .ensures) (c .before .before .before .before .before .before .before .run2 .ensures) (c .before .before .combine .ensures)
 
 pub finish-spec : {M : Type 1} → statement M
 finish-spec =
@@ -37,10 +34,9 @@ finish-spec =
     (tie.spec
     sub-last
     run-requires
-    combine-requires
-    combine-requires-2
+    balance-requires
     run-requires-2
-    combine-requires-3
+    combine-requires
     same-length
     same-length-2
     returns)

@@ -1,28 +1,17 @@
 -- `ranking::write_ranks` meets its contract: a board has at most 4,096 cells.
-use Prim.Native.Nat.{ℕ, _≤_}
-use mathlib.Core.Path.{sym}
-use mathlib.Core.List.{List}
-use lib.ListN.{length}
-use lib.Seq.{length-take-le}
-use Rattle.array.proofs.Board.{side-known}
-use Rattle.ranking.specs.Inside.{Marked}
 use borrow.Author.Needs.{needs}
+use Rattle.array.proofs.Board.{side-known}
 use Rattle.ranking.proofs.write_ranks.Statement.{statement}
 use Rattle.ranking.proofs.write_ranks.Tie as tie
 
-few : {s : ℕ} {marks : List ℕ} → Marked s marks → length marks ≤ 4096
-few {s} z = rw (z .size) (side-known s (z .side) .cells-few)
+write-least-requires : tie.Need-write-least-requires
+write-least-requires c κs = search needs
 
-array-borrow-prefix-sums : tie.Need-array-borrow-prefix-sums
-array-borrow-prefix-sums c = few (c .before .before .pre .0)
+write-few-requires : tie.Need-write-few-requires
+write-few-requires c κs = search needs
 
-slice-aggregate-rank-lanes : tie.Need-slice-aggregate-rank-lanes
-slice-aggregate-rank-lanes c = sym (length-take-le _ _ (few (c .before .before .before .pre .0)))
-
-rank-lanes-requires : tie.Need-rank-lanes-requires
-rank-lanes-requires c κs =
-    let p = c .before .before .before .before .pre in
-    (p .0, (sym (length-take-le _ _ (few (p .0))), p .1))
+write-many-requires : tie.Need-write-many-requires
+write-many-requires c κs = (c .before .before .before .before .before .pre .0, (c .before .before .before .before .before .pre .1, rw (c .before .before .before .before .before .pre .0 .size) (side-known (c .before .before .before .before .before .args .side) (c .before .before .before .before .before .pre .0 .side) .cells-few)))
 
 same-length : tie.Need-same-length
 same-length c = search needs
@@ -30,12 +19,28 @@ same-length c = search needs
 returns : tie.Need-returns
 returns c = search needs
 
+same-length-2 : tie.Need-same-length-2
+same-length-2 c = search needs
+
+returns-2 : tie.Need-returns-2
+returns-2 c = search needs
+
+same-length-3 : tie.Need-same-length-3
+same-length-3 c = search needs
+
+returns-3 : tie.Need-returns-3
+returns-3 c = search needs
+
 pub write-ranks-spec : {M : Type 1} → statement M
 write-ranks-spec =
     tie.close
     (tie.spec
-    array-borrow-prefix-sums
-    slice-aggregate-rank-lanes
-    rank-lanes-requires
+    write-least-requires
+    write-few-requires
+    write-many-requires
     same-length
-    returns)
+    returns
+    same-length-2
+    returns-2
+    same-length-3
+    returns-3)

@@ -1,0 +1,32 @@
+-- `prefix::prefix_least` meets its contract: on a board of side 2 at most the lane holds the prefix sums; else it is left.
+use mathlib.Core.Path.{sym, _∙_}
+use borrow.Author.Tests.{not-true, not-false, lt-ltb, le-ltb}
+use borrow.Author.Needs.{needs}
+use lib.ListN.{length}
+use Rattle.lanes.proofs.Held.{board-known}
+use Rattle.prefix.proofs.Composing.{prefix-done}
+use Rattle.prefix.proofs.prefix_least.Statement.{statement}
+use Rattle.prefix.proofs.prefix_least.Tie as tie
+
+returns : tie.Need-returns
+returns c = rw (lt-ltb 16 (length (c .before .before .args .words .now)) (c .if1 .taken))
+
+is-board-requires : tie.Need-is-board-requires
+is-board-requires c κs = search needs
+
+returns-2 : tie.Need-returns-2
+returns-2 c = rw (le-ltb _ _ (c .before .before .if1 .left)) (rw (sym (c .before .is-board .ensures) ∙ not-true _ (c .if2 .taken)))
+
+sum-least-requires : tie.Need-sum-least-requires
+sum-least-requires c κs = (board-known _ _ (sym (c .before .before .is-board .ensures) ∙ not-false _ (c .before .if2 .left)), c .before .before .before .if1 .left)
+
+same-length : tie.Need-same-length
+same-length c = search needs
+
+returns-3 : tie.Need-returns-3
+returns-3 c = rw (le-ltb _ _ (c .before .before .before .before .before .before .if1 .left)) (prefix-done _ _ _ (sym (c .before .before .before .before .before .is-board .ensures) ∙ not-false _ (c .before .before .before .before .if2 .left)) (λ i. c .before .before .before .before .before .before .before .slice-known .given i .fits) (c .before .before .sum-least .ensures))
+
+pub prefix-least-spec : {M : Type 1} → statement M
+prefix-least-spec =
+    tie.close
+    (tie.spec returns is-board-requires returns-2 sum-least-requires same-length returns-3)

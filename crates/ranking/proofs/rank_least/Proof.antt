@@ -1,0 +1,35 @@
+-- `ranking::rank_least` meets its contract: the marks are loaded, summed and turned into aims, of which there are 16 at most.
+use mathlib.Core.Path.{_∙_}
+use Rattle.ranking.proofs.Aims.{summed-least, ranks-are}
+use borrow.Author.Needs.{needs}
+use Rattle.ranking.proofs.rank_least.Statement.{statement}
+use Rattle.ranking.proofs.rank_least.Tie as tie
+
+load-requires : tie.Need-load-requires
+load-requires c κs = search needs
+
+prefix-least-requires : tie.Need-prefix-least-requires
+prefix-least-requires c κs = search needs
+
+unload-requires : tie.Need-unload-requires
+unload-requires c κs = (summed-least (c .before .before .before .before .before .before .before .before .before .before .before .before .before .pre .0) (c .before .before .before .before .before .before .before .before .before .before .before .before .before .pre .1 .1 .1) (c .before .before .before .before .before .before .before .before .load .ensures) (c .before .before .before .before .prefix-least .ensures), search needs)
+
+same-length : tie.Need-same-length
+same-length c = search needs
+
+same-length-2 : tie.Need-same-length-2
+same-length-2 c = search needs
+
+returns : tie.Need-returns
+returns c = c .before .before .unload .ensures ∙ ranks-are (c .before .before .before .before .before .before .before .before .before .before .before .before .before .before .before .before .args .side) (c .before .before .before .before .before .before .before .before .before .before .before .before .before .before .before .before .args .marks .now) (c .before .before .before .before .before .before .before .before .before .before .before .before .before .before .before .before .pre .0 .size)
+
+pub rank-least-spec : {M : Type 1} → statement M
+rank-least-spec =
+    tie.close
+    (tie.spec
+    load-requires
+    prefix-least-requires
+    unload-requires
+    same-length
+    same-length-2
+    returns)
