@@ -4,7 +4,7 @@ use mathlib.Core.Path.{_≡_, refl, sym, ap, _∙_}
 use mathlib.Core.List.{List, [], _∷_}
 use lib.ListN.{take, drop, length, drop-of-length-le}
 use lib.Arith.{digits-div, digits-mod, mod-mul}
-use native.Mathlib.Nat.{div-add-mod', mod-lt, mod-eq-of-lt, div-eq-of-lt, div-lt-iff-lt-mul, mul-pos, le-div-iff-mul-le, le-trans, lt-of-le-of-lt, div-mul-le-self, le-of-eq, add-zero, add-suc, suc-add, zero-add}
+use native.Mathlib.Nat.{div-add-mod', mod-lt, mod-eq-of-lt, div-eq-of-lt, div-lt-iff-lt-mul, mul-pos, le-div-iff-mul-le, le-trans, lt-of-le-of-lt, div-mul-le-self, le-of-eq, add-zero, add-suc, zero-add}
 use native.Mathlib.Omega.{arith}
 use Rattle.array.specs.declared.moves.Way.{Way}
 use Rattle.array.specs.declared.moves.Move.{Move}

@@ -9,7 +9,7 @@ use native.Mathlib.Numerals.{add-one}
 use native.Mathlib.Omega.{arith}
 use borrow.Author.Tests.{lt-ltb, le-ltb}
 use lib.Dec.{ltb}
-use lib.ListN.{length, drop, take, getD, replicate, drop-of-length-le}
+use lib.ListN.{length, drop, take, getD, replicate, drop-of-length-le, length-append, length-replicate}
 use lib.Seq.{drop-cons}
 use Rattle.array.specs.declared.moves.Move.{Move}
 use Rattle.array.specs.declared.moves.Move.the-variants.{Swap, Electronic}
@@ -105,10 +105,14 @@ turn-swaps (r ∷ rs) swaps k =
           ∙ sym (ap (λ (x : Turn). x .swaps) (turn-past r rs swaps k (omega arith)))
     ]
 
--- how many moves of runs there are, and how many of them are swaps
+-- how many moves of runs there are
 abbrev pub timesOf : List Run → ℕ
 timesOf [] = 0
 timesOf (r ∷ rs) = r .times + timesOf rs
+
+pub times-moves : (rs : List Run) → length (moves rs) ≡ timesOf rs
+times-moves [] = refl
+times-moves (r ∷ rs) = length-append (replicate (r .times) (r .step)) (moves rs) ∙ ap₂ (λ (a b : ℕ). a + b) (length-replicate (r .times) (r .step)) (times-moves rs)
 
 -- how many moves of its run were made before move k
 abbrev pub doneIn : List Run → ℕ → ℕ
@@ -116,9 +120,12 @@ doneIn [] k = 0
 doneIn (r ∷ rs) k = cond (ltb k (r .times)) k (doneIn rs (k - r .times))
 
 -- runs backwards, each turned round, before others
+abbrev turnedRun : Run → Run
+turnedRun r = record { step = turned (r .step); times = r .times }
+
 abbrev pub backOnto : List Run → List Run → List Run
 backOnto [] ys = ys
-backOnto (r ∷ rs) ys = backOnto rs (record { step = turned (r .step); times = r .times } ∷ ys)
+backOnto (r ∷ rs) ys = backOnto rs (turnedRun r ∷ ys)
 
 swaps-turned : (m : Move) (t : ℕ) → swapsIn (turned m) t ≡ swapsIn m t
 swaps-turned Swap t = refl
@@ -132,10 +139,9 @@ swaps-around (Electronic w) t k h = refl
 turn-behind : (rs ys : List Run) (a j : ℕ) → turnIn (backOnto rs ys) a (timesOf rs + j) ≡ turnIn ys (a + swaps rs) j
 turn-behind [] ys a j = ap₂ (turnIn ys) (omega arith) (omega arith)
 turn-behind (r ∷ rs) ys a j =
-    let back : Run = record { step = turned (r .step); times = r .times } in
-    ap (turnIn (backOnto rs (back ∷ ys)) a) (omega arith)
-    ∙ turn-behind rs (back ∷ ys) a (r .times + j)
-    ∙ turn-past back ys (a + swaps rs) (r .times + j) (omega arith)
+    ap (turnIn (backOnto rs (turnedRun r ∷ ys)) a) (omega arith)
+    ∙ turn-behind rs (turnedRun r ∷ ys) a (r .times + j)
+    ∙ turn-past (turnedRun r) ys (a + swaps rs) (r .times + j) (omega arith)
     ∙ ap₂ (turnIn ys) (omega (arith, swaps-turned (r .step) (r .times))) (omega arith)
 
 -- a move that undoes a move of which so many of the run were made: it is turned round, and as many of its run are left, with itself
@@ -149,7 +155,7 @@ pub turn-back : (rs ys : List Run) (a b k k' total : ℕ) → k + suc k' ≡ tim
     → Undoes (turnIn rs a k) (doneIn rs k) total (turnIn (backOnto rs ys) b k')
 turn-back [] ys a b k k' total e f = absurd (omega arith)
 turn-back (r ∷ rs) ys a b k k' total e f =
-    let back : Run = record { step = turned (r .step); times = r .times } in
+    let back = turnedRun r in
     let j = r .times - suc k in
     elim (decLt k (r .times)) [
       | yes h ↦

@@ -2,7 +2,7 @@
 use Prim.Native.Nat.{ℕ, zero, suc, _+_, _-_, _*_, _≤_, _<_}
 use mathlib.Core.Path.{_≡_, refl, sym, ap, ap₂, _∙_}
 use mathlib.Core.List.{List, [], _∷_, _++_}
-use lib.ListN.{take, getD}
+use lib.ListN.{take, getD, length}
 use lib.Seq.{take-suc}
 use lib.Arith.{digits-div, digits-lt}
 use native.Mathlib.Nat.{div-add-mod', mod-lt, mod-eq-of-lt, div-lt-iff-lt-mul, mul-pos}
@@ -11,11 +11,13 @@ use Rattle.array.specs.declared.moves.Move.{Move}
 use Rattle.array.specs.declared.moves.Move.the-variants.{Swap, Electronic}
 use Rattle.array.specs.Cells.{cells, cell, place, group, partner}
 use Rattle.travel.proofs.Listed.{swapsOf, turn-step, turn-swaps}
+use Rattle.logs.specs.declared.Run.{Run}
+use Rattle.logs.specs.Runs.{moves}
 use Rattle.lists.specs.Lists.{concentrateRuns}
 use Rattle.lists.proofs.Counts.{concentrate-length}
 use Rattle.travel.specs.Travel.{concentrateMoves, toward, heading, travel, stands}
 use Rattle.travel.specs.Turns.{turnIn}
-use Rattle.travel.proofs.Walk.{none, onto, seat, Heads, seat<, start, step-on}
+use Rattle.travel.proofs.Walk.{none, onto, Heads, seat<, start, step-on}
 
 module _ (s : ℕ) (pos : 1 ≤ s) where
   pos² : 0 < s * s
@@ -52,9 +54,13 @@ travel-append s swaps r [] ys i = refl
 travel-append s swaps r (Swap ∷ xs) ys i = travel-append s (suc swaps) r xs ys (partner s i)
 travel-append s swaps r (Electronic w ∷ xs) ys i = travel-append s swaps r xs ys (toward s w (heading s swaps r) i)
 
+pub travel-suc : (s : ℕ) (rs : List Run) (k r i : ℕ) → k < length (moves rs) →
+    travel s 0 r (take (suc k) (moves rs)) i ≡ travel s (turnIn rs 0 k .swaps) r (turnIn rs 0 k .step ∷ []) (travel s 0 r (take k (moves rs)) i)
+travel-suc s rs k r i h =
+    ap (λ (ms : List Move). travel s 0 r ms i) (take-suc (moves rs) k Swap h)
+    ∙ travel-append s 0 r (take k (moves rs)) (getD (moves rs) k Swap ∷ []) i
+    ∙ ap₂ (λ (m : Move) (swaps : ℕ). travel s swaps r (m ∷ []) (travel s 0 r (take k (moves rs)) i)) (turn-step rs 0 k) (turn-swaps rs 0 k)
+
 pub stands-suc : (s k r i : ℕ) → k < 7 * (s - 1) + 2 →
     stands s (suc k) r i ≡ travel s (turnIn (concentrateRuns s) 0 k .swaps) r (turnIn (concentrateRuns s) 0 k .step ∷ []) (stands s k r i)
-stands-suc s k r i h =
-    ap (λ (ms : List Move). travel s 0 r ms i) (take-suc (concentrateMoves s) k Swap (rw (concentrate-length s) h))
-    ∙ travel-append s 0 r (take k (concentrateMoves s)) (getD (concentrateMoves s) k Swap ∷ []) i
-    ∙ ap₂ (λ (m : Move) (swaps : ℕ). travel s swaps r (m ∷ []) (stands s k r i)) (turn-step (concentrateRuns s) 0 k) (turn-swaps (concentrateRuns s) 0 k)
+stands-suc s k r i h = travel-suc s (concentrateRuns s) k r i (rw (concentrate-length s) h)

@@ -1,16 +1,19 @@
 -- The shape of a list that concentrates: two halves of electronic moves, each along rows and then along columns, and a swap behind each.
-use Prim.Native.Nat.{ℕ, zero, suc, _+_, _-_, _≤_, _<_}
+-- It can be undone if no half has two runs of one way.
+use Prim.Native.Nat.{ℕ, zero, suc, _+_, _-_, _≤_}
 use mathlib.Core.Path.{_≡_, refl, sym, _∙_}
 use mathlib.Core.List.{List, [], _∷_, _++_}
-use lib.ListN.{replicate}
+use lib.ListN.{drop, replicate}
 use native.Mathlib.Nat.{add-suc, zero-add, suc-add}
 use native.Mathlib.Omega.{arith}
 use Rattle.array.specs.declared.moves.Way.{Way}
 use Rattle.array.specs.declared.moves.Way.the-variants.{Right, Left, Up, Down}
 use Rattle.array.specs.declared.moves.Move.{Move}
 use Rattle.array.specs.declared.moves.Move.the-variants.{Swap, Electronic}
-use Rattle.travel.specs.Travel.{concentrateMoves}
-use Rattle.travel.proofs.Walk.{Steps, none, onto, tally}
+use Rattle.logs.specs.declared.Run.{Run}
+use Rattle.logs.specs.Runs.{moves, along}
+use Rattle.lists.specs.Lists.{concentrateRuns}
+use Rattle.travel.proofs.Walk.{Steps, none, made, onto, tally}
 
 -- of the moves of a half none is up or down yet, or all are made right and left
 pub data Straight (s : ℕ) (c : Steps) : Type 0 where
@@ -30,8 +33,18 @@ Concentrates s swaps c [] = swaps ≡ 2
 Concentrates s swaps c (Swap ∷ ms) = (swaps ≤ 1) × Full s swaps c × Concentrates s (suc swaps) none ms
 Concentrates s swaps c (Electronic w ∷ ms) = (swaps ≤ 1) × Straight s (onto (Electronic w) c) × Concentrates s swaps (onto (Electronic w) c) ms
 
+-- of the moves of a half so many are like this one
+abbrev pub Like : Move → Steps → ℕ → Type 0
+Like Swap c t = Unit {0}
+Like (Electronic w) c t = made w c ≡ t
+
+-- runs of which each begins with no move like its own made in its half
+abbrev pub Fresh : Steps → List Run → Type 0
+Fresh c [] = Unit {0}
+Fresh c (r ∷ rs) = Like (r .step) c 0 × Fresh (tally (replicate (r .times) (r .step)) c) rs
+
 -- with n moves more one way
-abbrev pub ran : Way → ℕ → Steps → Steps
+abbrev ran : Way → ℕ → Steps → Steps
 ran Right n c = record { rights = n + c .rights; lefts = c .lefts; ups = c .ups; downs = c .downs }
 ran Left n c = record { rights = c .rights; lefts = n + c .lefts; ups = c .ups; downs = c .downs }
 ran Up n c = record { rights = c .rights; lefts = c .lefts; ups = n + c .ups; downs = c .downs }
@@ -49,7 +62,7 @@ ran-more Left n c = rw (add-suc n (c .lefts), suc-add n (c .lefts))
 ran-more Up n c = rw (add-suc n (c .ups), suc-add n (c .ups))
 ran-more Down n c = rw (add-suc n (c .downs), suc-add n (c .downs))
 
-pub tally-run : (w : Way) (n : ℕ) (c : Steps) → tally (replicate n (Electronic w)) c ≡ ran w n c
+tally-run : (w : Way) (n : ℕ) (c : Steps) → tally (replicate n (Electronic w)) c ≡ ran w n c
 tally-run w zero c = sym (ran-none w c)
 tally-run w (suc n) c = tally-run w n (onto (Electronic w) c) ∙ ran-more w n c
 
@@ -64,7 +77,7 @@ module _ {s swaps : ℕ} (few : swaps ≤ 1) (w : Way) (ms : List Move) where
   a-run n c z rest = each n c (λ t. rw (tally-run w t c) (z t)) (rw (tally-run w n c) rest)
 
 -- so concentrate's list has the shape
-pub concentrates : (s : ℕ) → Concentrates s 0 none (concentrateMoves s)
+pub concentrates : (s : ℕ) → Concentrates s 0 none (moves (concentrateRuns s))
 concentrates s =
     let n = s - 1 in
     let one : 0 ≤ 1 = omega arith in
@@ -80,3 +93,13 @@ concentrates s =
           (a-run two Up _ n _ (λ t. in-columns (omega arith) (omega arith))
           (two, omega arith, refl))),
     ))))
+
+pub fresh : (s : ℕ) → Fresh none (concentrateRuns s)
+fresh s =
+    let n = s - 1 in
+    let a = ran Right n none in
+    let b = ran Left n a in
+    let c = ran Up n b in
+    let half : (rs : List Run) → Fresh c rs → Fresh none (along Right n ∷ along Left n ∷ along Up n ∷ rs) =
+    λ rs f. (refl, rw (tally-run Right n none) (refl, rw (tally-run Left n a) (refl, rw (tally-run Up n b) f))) in
+    half (drop 3 (concentrateRuns s)) (refl, (tt, half (drop 8 (concentrateRuns s)) (tt, tt)))

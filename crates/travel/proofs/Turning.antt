@@ -1,4 +1,4 @@
--- Each move of concentrate, and the move of distribute that undoes it: where it takes a record, and that it takes it back.
+-- Each move of a list of the shape, and the move of the list backwards that undoes it: where it takes a record, and that it takes it back.
 use Prim.Native.Nat.{ℕ, zero, suc, _+_, _-_, _*_, _≤_, _<_}
 use mathlib.Core.Path.{_≡_, refl, sym, ap, ap₂, _∙_, subst}
 use mathlib.Core.List.{List, [], _∷_, _++_}
@@ -14,125 +14,126 @@ use Rattle.array.specs.declared.moves.Move.the-variants.{Swap, Electronic}
 use Rattle.array.specs.Cells.{partner}
 use Rattle.array.specs.Moves.{opposite, turned}
 use Rattle.logs.specs.declared.Run.{Run}
-use Rattle.logs.specs.Runs.{moves, along, swapsIn}
+use Rattle.logs.specs.Runs.{moves, swapsIn, swaps}
 use Rattle.lists.specs.Lists.{concentrateRuns, distributeRuns}
-use Rattle.lists.proofs.Counts.{concentrate-length}
-use Rattle.travel.specs.declared.turns.Turn.{Turn}
 use Rattle.travel.specs.Turns.{turnIn, turnAt}
-use Rattle.travel.specs.Travel.{toward, heading, concentrateMoves, stands}
-use Rattle.travel.proofs.Listed.{swapsOf, timesOf, doneIn, turn-step, turn-swaps, take-in-run, take-past-run, Undoes, turn-back}
+use Rattle.travel.specs.Travel.{toward, heading, travel}
+use Rattle.travel.proofs.Listed.{swapsOf, timesOf, times-moves, doneIn, turn-step, turn-swaps, take-in-run, take-past-run, backOnto, Undoes, turn-back}
 use Rattle.travel.proofs.Walk.{Steps, none, made, onto, tally, going}
-use Rattle.travel.proofs.Shape.{Concentrates, concentrates, ran, tally-run}
+use Rattle.travel.proofs.Shape.{Concentrates, Like, Fresh, concentrates, fresh}
 use Rattle.travel.proofs.Collide.{Starts, spot, spot-on, spot-back, from-start, stood-at}
-use Rattle.travel.proofs.Range.{stands-suc}
-
--- of the moves of a half so many are like this one
-abbrev Waits : Move → Steps → ℕ → Type 0
-Waits Swap c t = Unit {0}
-Waits (Electronic w) c t = made w c ≡ t
-
--- each run begins with no move like its own made in its half
-abbrev Fresh : Steps → List Run → Type 0
-Fresh c [] = Unit {0}
-Fresh c (r ∷ rs) = Waits (r .step) c 0 × Fresh (tally (replicate (r .times) (r .step)) c) rs
+use Rattle.travel.proofs.Range.{travel-suc}
 
 tally-append : (xs ys : List Move) (c : Steps) → tally (xs ++ ys) c ≡ tally ys (tally xs c)
 tally-append [] ys c = refl
 tally-append (m ∷ xs) ys c = tally-append xs ys (onto m c)
 
-waits-on : (m : Move) (c : Steps) (d : ℕ) → Waits m c d → Waits m (onto m c) (suc d)
-waits-on Swap c d z = tt
-waits-on (Electronic Right) c d z = ap suc z
-waits-on (Electronic Left) c d z = ap suc z
-waits-on (Electronic Up) c d z = ap suc z
-waits-on (Electronic Down) c d z = ap suc z
+one-more : (m : Move) (c : Steps) (d : ℕ) → Like m c d → Like m (onto m c) (suc d)
+one-more Swap c d z = tt
+one-more (Electronic Right) c d z = ap suc z
+one-more (Electronic Left) c d z = ap suc z
+one-more (Electronic Up) c d z = ap suc z
+one-more (Electronic Down) c d z = ap suc z
 
-waits-run : (m : Move) (t : ℕ) (c : Steps) (d e : ℕ) → Waits m c d → e ≡ d + t → Waits m (tally (replicate t m ++ []) c) e
-waits-run m zero c d e z f = let g : e ≡ d = omega arith in rw g z
-waits-run m (suc t) c d e z f = waits-run m t (onto m c) (suc d) e (waits-on m c d z) (omega arith)
+some-more : (m : Move) (t : ℕ) (c : Steps) (d e : ℕ) → Like m c d → e ≡ d + t → Like m (tally (replicate t m ++ []) c) e
+some-more m zero c d e z f = let g : e ≡ d = omega arith in rw g z
+some-more m (suc t) c d e z f = some-more m t (onto m c) (suc d) e (one-more m c d z) (omega arith)
 
--- so before each move as many like it are made in its half as in its run
-waits : (rs : List Run) (c : Steps) (a k : ℕ) → k < timesOf rs → Fresh c rs → Waits (turnIn rs a k .step) (tally (take k (moves rs)) c) (doneIn rs k)
-waits [] c a k h f = absurd (omega arith)
-waits (r ∷ rs) c a k h f =
+-- before each move as many like it are made in its half as in its run
+like : (rs : List Run) (c : Steps) (a k : ℕ) → k < timesOf rs → Fresh c rs → Like (turnIn rs a k .step) (tally (take k (moves rs)) c) (doneIn rs k)
+like [] c a k h f = absurd (omega arith)
+like (r ∷ rs) c a k h f =
     let run = replicate (r .times) (r .step) in
     elim (decLt k (r .times)) [
-      | yes l ↦ rw (lt-ltb k (r .times) l, take-in-run (r .step) (moves rs) (r .times) k (omega arith)) (waits-run (r .step) k c 0 k (f .0) (omega arith))
+      | yes l ↦ rw (lt-ltb k (r .times) l, take-in-run (r .step) (moves rs) (r .times) k (omega arith)) (some-more (r .step) k c 0 k (f .0) (omega arith))
       | no l ↦
           rw (le-ltb k (r .times) (omega arith), take-past-run (r .step) (moves rs) (r .times) k (omega arith), tally-append run (take (k - r .times) (moves rs)) c)
-          (waits rs (tally run c) _ (k - r .times) (omega arith) (f .1))
+          (like rs (tally run c) _ (k - r .times) (omega arith) (f .1))
     ]
 
--- and so it is in concentrate's list
-fresh : (s : ℕ) → Fresh none (concentrateRuns s)
-fresh s =
-    let n = s - 1 in
-    let a = ran Right n none in
-    let b = ran Left n a in
-    let c = ran Up n b in
-    let half : (rs : List Run) → Fresh c rs → Fresh none (along Right n ∷ along Left n ∷ along Up n ∷ rs) =
-    λ rs f. (refl, rw (tally-run Right n none) (refl, rw (tally-run Left n a) (refl, rw (tally-run Up n b) f))) in
-    half (drop 3 (concentrateRuns s)) (refl, (tt, half (drop 8 (concentrateRuns s)) (tt, tt)))
+-- the cell, after k moves of a list, of the record of rank r that started in cell i
+abbrev pub standsBy : ℕ → List Run → ℕ → ℕ → ℕ → ℕ
+standsBy s rs k r i = travel s 0 r (take k (moves rs)) i
 
--- move k of concentrate goes a way, and move k' of distribute goes back
-pub record Leg (s k k' : ℕ) (w : Way) (swaps : ℕ) : Type 0 where
+-- move k of a list goes a way, and move k' of another goes back
+pub record Leg (s : ℕ) (forth back : List Run) (k k' : ℕ) (w : Way) (swaps : ℕ) : Type 0 where
   pub few : swaps ≤ 1
-  pub step : turnAt (concentrateRuns s) k .step ≡ Electronic w
-  pub turn : turnAt (concentrateRuns s) k .swaps ≡ swaps
-  pub undo : turnAt (distributeRuns s) k' .step ≡ Electronic (opposite w)
-  pub back : turnAt (distributeRuns s) k' .swaps ≡ 2 - swaps
-  pub goes-on : (r i : ℕ) → stands s (suc k) r i ≡ toward s w (heading s swaps r) (stands s k r i)
+  pub step : turnAt forth k .step ≡ Electronic w
+  pub turn : turnAt forth k .swaps ≡ swaps
+  pub back-step : turnAt back k' .step ≡ Electronic (opposite w)
+  pub back-turn : turnAt back k' .swaps ≡ 2 - swaps
+  pub goes-on : (r i : ℕ) → standsBy s forth (suc k) r i ≡ toward s w (heading s swaps r) (standsBy s forth k r i)
   pub goes-back : (r i : ℕ) → Starts s i r
-      → stands s k r i ≡ going s (opposite w) (turnAt (distributeRuns s) k' .left - 1) (heading s swaps i) (stands s (suc k) r i)
+      → standsBy s forth k r i ≡ going s (opposite w) (turnAt back k' .left - 1) (heading s swaps i) (standsBy s forth (suc k) r i)
 
 -- both are swaps, or both are electronic
-pub data Stage (s k k' : ℕ) : Type 0 where
-  light : turnAt (concentrateRuns s) k .step ≡ Swap → turnAt (distributeRuns s) k' .step ≡ Swap
-      → ((r i : ℕ) → stands s (suc k) r i ≡ partner s (stands s k r i)) → Stage s k k'
-  leg : (w : Way) (swaps : ℕ) → Leg s k k' w swaps → Stage s k k'
+pub data StageBy (s : ℕ) (forth back : List Run) (k k' : ℕ) : Type 0 where
+  light : turnAt forth k .step ≡ Swap → turnAt back k' .step ≡ Swap
+      → ((r i : ℕ) → standsBy s forth (suc k) r i ≡ partner s (standsBy s forth k r i)) → StageBy s forth back k k'
+  leg : (w : Way) (swaps : ℕ) → Leg s forth back k k' w swaps → StageBy s forth back k k'
 
-module _ (s : ℕ) (pos : 1 ≤ s) (k k' : ℕ) (e : k + k' ≡ 7 * (s - 1) + 1) where
-  abbrev x : Turn
-  x = turnIn (concentrateRuns s) 0 k
-
+-- a list of the shape, and the list backwards: move k is undone by the move that has as many before it as move k has behind
+module _ (s : ℕ) (pos : 1 ≤ s) (rs : List Run) (shape : Concentrates s 0 none (moves rs)) (begun : Fresh none rs) (two : swaps rs ≡ 2)
+    (k k' : ℕ) (e : k + suc k' ≡ timesOf rs) where
   -- the swaps and the moves of the half that are made before move k
-  abbrev swaps : ℕ
-  swaps = swapsOf (take k (concentrateMoves s)) 0
+  abbrev n : ℕ
+  n = swapsOf (take k (moves rs)) 0
 
   abbrev c : Steps
-  c = tally (take k (concentrateMoves s)) none
+  c = tally (take k (moves rs)) none
 
-  turned-back : Undoes (turnIn (concentrateRuns s) 0 k) (doneIn (concentrateRuns s) k) 2 (turnIn (distributeRuns s) 0 k')
-  turned-back = turn-back (concentrateRuns s) [] 0 0 k k' 2 (omega arith) refl
+  inside : k < length (moves rs)
+  inside = rw (times-moves rs) (omega arith)
 
-  electronic : (w : Way) → x .step ≡ Electronic w → Stage s k k'
-  electronic w f =
-      let y = turned-back in
-      let behind = drop (suc k) (concentrateMoves s) in
-      let here : drop k (concentrateMoves s) ≡ Electronic w ∷ behind =
-      drop-cons (concentrateMoves s) k Swap (rw (concentrate-length s) (omega arith)) ∙ ap (λ (m : Move). m ∷ behind) (turn-step (concentrateRuns s) 0 k ∙ f) in
-      let rest : Concentrates s swaps c (Electronic w ∷ behind) = subst (Concentrates s swaps c) here (from-start s pos (concentrateMoves s) (concentrates s) k .rest) in
-      let turn : x .swaps ≡ swaps = sym (turn-swaps (concentrateRuns s) 0 k) in
-      let waited : made w c ≡ doneIn (concentrateRuns s) k = subst (λ (m : Move). Waits m c (doneIn (concentrateRuns s) k)) f (waits (concentrateRuns s) none 0 k (omega arith) (fresh s)) in
-      let wait : turnIn (distributeRuns s) 0 k' .left - 1 ≡ made w c = omega (arith, y .left, waited) in
-      let on : (r i : ℕ) → stands s (suc k) r i ≡ toward s w (heading s swaps r) (stands s k r i) = λ r i. stands-suc s k r i (omega arith) ∙ rw (f, turn) in
-      leg w swaps
-      (record {
-        few = rest .0;
-        step = f;
-        turn = turn;
-        undo = y .step ∙ ap turned f;
-        back = omega (arith, y .swaps, turn, ap (λ (m : Move). swapsIn m 1) f);
-        goes-on = on;
-        goes-back = λ r i o.
-            let at = stood-at s pos (concentrateMoves s) (concentrates s) k o in
-            let next : stands s (suc k) r i ≡ spot s swaps (onto (Electronic w) c) i r = on r i ∙ ap (toward s w (heading s swaps r)) at ∙ spot-on s pos o swaps c w (rest .0) in
-            at ∙ sym (spot-back s pos o swaps c w (rest .0)) ∙ sym (ap₂ (λ (n j : ℕ). going s (opposite w) n (heading s swaps i) j) wait next);
-      })
+  undo : Undoes (turnIn rs 0 k) (doneIn rs k) 2 (turnIn (backOnto rs []) 0 k')
+  undo = turn-back rs [] 0 0 k k' 2 e (omega arith)
 
-  pub stage : Stage s k k'
-  stage = go (x .step) refl
+  turn-is : turnIn rs 0 k .swaps ≡ n
+  turn-is = sym (turn-swaps rs 0 k)
+
+  module _ (w : Way) (f : turnIn rs 0 k .step ≡ Electronic w) where
+    few : n ≤ 1
+    few =
+        let here : drop k (moves rs) ≡ Electronic w ∷ drop (suc k) (moves rs) =
+        drop-cons (moves rs) k Swap inside ∙ ap (λ (m : Move). m ∷ drop (suc k) (moves rs)) (turn-step rs 0 k ∙ f) in
+        subst (Concentrates s n c) here (from-start s pos (moves rs) shape k .rest) .0
+
+    wait : turnIn (backOnto rs []) 0 k' .left - 1 ≡ made w c
+    wait =
+        let l : made w c ≡ doneIn rs k = subst (λ (m : Move). Like m c (doneIn rs k)) f (like rs none 0 k (omega arith) begun) in
+        omega (arith, undo .left)
+
+    on : (r i : ℕ) → standsBy s rs (suc k) r i ≡ toward s w (heading s n r) (standsBy s rs k r i)
+    on r i = travel-suc s rs k r i inside ∙ rw (f, turn-is)
+
+    back : (r i : ℕ) → Starts s i r → standsBy s rs k r i ≡ going s (opposite w) (turnIn (backOnto rs []) 0 k' .left - 1) (heading s n i) (standsBy s rs (suc k) r i)
+    back r i o =
+        let at = stood-at s pos (moves rs) shape k o in
+        let next : standsBy s rs (suc k) r i ≡ spot s n (onto (Electronic w) c) i r = on r i ∙ ap (toward s w (heading s n r)) at ∙ spot-on s pos o n c w few in
+        at ∙ sym (spot-back s pos o n c w few) ∙ sym (ap₂ (λ (d j : ℕ). going s (opposite w) d (heading s n i) j) wait next)
+
+    electronic : Leg s rs (backOnto rs []) k k' w n
+    electronic =
+        record {
+          few = few;
+          step = f;
+          turn = turn-is;
+          back-step = undo .step ∙ ap turned f;
+          back-turn = omega (arith, undo .swaps, turn-is, ap (λ (m : Move). swapsIn m 1) f);
+          goes-on = on;
+          goes-back = back;
+        }
+
+  pub stage-by : StageBy s rs (backOnto rs []) k k'
+  stage-by = go (turnIn rs 0 k .step) refl
     where
-      go : (m : Move) → x .step ≡ m → Stage s k k'
-      go Swap f = light f (turned-back .step ∙ ap turned f) (λ r i. stands-suc s k r i (omega arith) ∙ rw f)
-      go (Electronic w) f = electronic w f
+      go : (m : Move) → turnIn rs 0 k .step ≡ m → StageBy s rs (backOnto rs []) k k'
+      go Swap f = light f (undo .step ∙ ap turned f) (λ r i. travel-suc s rs k r i inside ∙ rw f)
+      go (Electronic w) f = leg w n (electronic w f)
+
+-- so of concentrate and distribute
+abbrev pub Stage : ℕ → ℕ → ℕ → Type 0
+Stage s k k' = StageBy s (concentrateRuns s) (distributeRuns s) k k'
+
+pub stage : (s : ℕ) → 1 ≤ s → (k k' : ℕ) → k + k' ≡ 7 * (s - 1) + 1 → Stage s k k'
+stage s pos k k' e = stage-by s pos (concentrateRuns s) (concentrates s) (fresh s) refl k k' (omega arith)
