@@ -1,7 +1,7 @@
 pub mod Line
 pub mod Walk
 pub mod Listed
+pub mod Shape
 pub mod Collide
 pub mod Range
-pub mod Moving
-pub mod Legs
+pub mod Turning

@@ -2,21 +2,22 @@
 use Prim.Native.Nat.{ℕ, zero, suc, _+_, _-_, _*_, _≤_, _<_}
 use mathlib.Core.Path.{_≡_, refl, sym, ap, ap₂, _∙_}
 use mathlib.Core.List.{List, [], _∷_, _++_}
-use lib.ListN.{take, getD}
+use lib.ListN.{take, getD, length}
 use lib.Seq.{take-suc}
 use lib.Arith.{digits-div, digits-lt}
-use native.Mathlib.Nat.{div-add-mod', mod-lt, mod-eq-of-lt, div-lt-iff-lt-mul, mul-pos, zero-add, add-suc, suc-add}
+use native.Mathlib.Nat.{div-add-mod', mod-lt, mod-eq-of-lt, div-lt-iff-lt-mul, mul-pos}
 use Rattle.array.specs.declared.moves.Way.{Way}
-use Rattle.array.specs.declared.moves.Way.the-variants.{Right, Left, Up, Down}
 use Rattle.array.specs.declared.moves.Move.{Move}
 use Rattle.array.specs.declared.moves.Move.the-variants.{Swap, Electronic}
 use Rattle.array.specs.Cells.{cells, cell, place, group, partner}
 use Rattle.travel.proofs.Listed.{swapsOf, turn-step, turn-swaps}
+use Rattle.logs.specs.declared.Run.{Run}
+use Rattle.logs.specs.Runs.{moves}
 use Rattle.lists.specs.Lists.{concentrateRuns}
 use Rattle.lists.proofs.Counts.{concentrate-length}
 use Rattle.travel.specs.Travel.{concentrateMoves, toward, heading, travel, stands}
 use Rattle.travel.specs.Turns.{turnIn}
-use Rattle.travel.proofs.Walk.{seat, Heads, seat<, start, right, left, up, down}
+use Rattle.travel.proofs.Walk.{none, onto, Heads, seat<, start, step-on}
 
 module _ (s : ℕ) (pos : 1 ≤ s) where
   pos² : 0 < s * s
@@ -24,19 +25,11 @@ module _ (s : ℕ) (pos : 1 ≤ s) where
 
   -- where a record goes by one electronic move: a place of its group
   within : (w : Way) (h i : ℕ) → h < s * s → (p : ℕ) × (p < s * s) × (toward s w h i ≡ cell s (group s i) p)
-  within w h i l = go w
+  within w h i l =
+      (_, seat< t (onto (Electronic w) none), ap (toward s w h) (sym (div-add-mod' i (s * s)) ∙ start s (group s i) (place s i) h) ∙ step-on t (group s i) none w)
     where
       t : Heads s (place s i) h h
       t = record { pos = pos; inside = mod-lt i pos²; inColumn = refl; inRow = sym (mod-eq-of-lt (div-lt-iff-lt-mul pos .1 l)) }
-
-      begin : (w : Way) → toward s w h i ≡ toward s w h (cell s (group s i) (seat s (place s i) h 0 0 0 0))
-      begin w = ap (toward s w h) (sym (div-add-mod' i (s * s)) ∙ start s (group s i) (place s i) h)
-
-      go : (w : Way) → (p : ℕ) × (p < s * s) × (toward s w h i ≡ cell s (group s i) p)
-      go Right = (_, seat< t (group s i) 1 0 0 0, begin Right ∙ right t (group s i) 0 0 0 0)
-      go Left = (_, seat< t (group s i) 0 1 0 0, begin Left ∙ left t (group s i) 0 0 0 0)
-      go Up = (_, seat< t (group s i) 0 0 1 0, begin Up ∙ up t (group s i) 0 0 0 0)
-      go Down = (_, seat< t (group s i) 0 0 0 1, begin Down ∙ down t (group s i) 0 0 0 0)
 
   pub same-group : (w : Way) (h i : ℕ) → h < s * s → group s (toward s w h i) ≡ group s i
   same-group w h i l = let (p, p<, e) = within w h i l in rw e (digits-div (group s i) p<)
@@ -56,15 +49,18 @@ module _ (s : ℕ) (pos : 1 ≤ s) where
   stands-in-range k r i l h = in-range 0 r (take k (concentrateMoves s)) i l h
 
 -- one move more
-travel-append : (s swaps r : ℕ) (xs ys : List Move) (i : ℕ) → travel s swaps r (xs ++ ys) i ≡ travel s (swapsOf xs + swaps) r ys (travel s swaps r xs i)
-travel-append s swaps r [] ys i = rw zero-add
-travel-append s swaps r (Swap ∷ xs) ys i =
-    travel-append s (suc swaps) r xs ys (partner s i) ∙ rw (add-suc (swapsOf xs) swaps, ← suc-add (swapsOf xs) swaps)
+travel-append : (s swaps r : ℕ) (xs ys : List Move) (i : ℕ) → travel s swaps r (xs ++ ys) i ≡ travel s (swapsOf xs swaps) r ys (travel s swaps r xs i)
+travel-append s swaps r [] ys i = refl
+travel-append s swaps r (Swap ∷ xs) ys i = travel-append s (suc swaps) r xs ys (partner s i)
 travel-append s swaps r (Electronic w ∷ xs) ys i = travel-append s swaps r xs ys (toward s w (heading s swaps r) i)
+
+pub travel-suc : (s : ℕ) (rs : List Run) (k r i : ℕ) → k < length (moves rs) →
+    travel s 0 r (take (suc k) (moves rs)) i ≡ travel s (turnIn rs 0 k .swaps) r (turnIn rs 0 k .step ∷ []) (travel s 0 r (take k (moves rs)) i)
+travel-suc s rs k r i h =
+    ap (λ (ms : List Move). travel s 0 r ms i) (take-suc (moves rs) k Swap h)
+    ∙ travel-append s 0 r (take k (moves rs)) (getD (moves rs) k Swap ∷ []) i
+    ∙ ap₂ (λ (m : Move) (swaps : ℕ). travel s swaps r (m ∷ []) (travel s 0 r (take k (moves rs)) i)) (turn-step rs 0 k) (turn-swaps rs 0 k)
 
 pub stands-suc : (s k r i : ℕ) → k < 7 * (s - 1) + 2 →
     stands s (suc k) r i ≡ travel s (turnIn (concentrateRuns s) 0 k .swaps) r (turnIn (concentrateRuns s) 0 k .step ∷ []) (stands s k r i)
-stands-suc s k r i h =
-    ap (λ (ms : List Move). travel s 0 r ms i) (take-suc (concentrateMoves s) k Swap (rw (concentrate-length s) h))
-    ∙ travel-append s 0 r (take k (concentrateMoves s)) (getD (concentrateMoves s) k Swap ∷ []) i
-    ∙ ap₂ (λ (m : Move) (swaps : ℕ). travel s swaps r (m ∷ []) (stands s k r i)) (turn-step (concentrateRuns s) 0 k) (turn-swaps (concentrateRuns s) 0 k)
+stands-suc s k r i h = travel-suc s (concentrateRuns s) k r i (rw (concentrate-length s) h)
