@@ -1,4 +1,3 @@
 pub mod Content
-pub mod Course
 pub mod Holds
-pub mod Standing
+pub mod Spots
