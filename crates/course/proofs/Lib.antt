@@ -1,3 +1,4 @@
+pub mod Bridge
 pub mod Content
 pub mod Counting
 pub mod Holds
