@@ -1,5 +1,6 @@
 pub mod Bridge
 pub mod Content
 pub mod Counting
+pub mod Course
 pub mod Holds
 pub mod Spots
