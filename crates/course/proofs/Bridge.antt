@@ -22,8 +22,8 @@ use Rattle.mover.specs.Runs.{lowAfter, isLate, legOf}
 use Rattle.course.proofs.Spots.{spot, onLine, atCell, own-spot, spot<, spot-line, line-line, reach<, head<}
 
 -- the cell after one move of a record in cell i that heads for place h and waits so far from it
-abbrev pub goTo : ℕ → Way → ℕ → ℕ → ℕ → ℕ
-goTo s w wait h i = cond (ltb wait (distance s w h (place s i))) (onward s w i) i
+abbrev pub going : ℕ → Way → ℕ → ℕ → ℕ → ℕ
+going s w wait h i = cond (ltb wait (distance s w h (place s i))) (onward s w i) i
 
 -- the place that an aim names, by its low digits or by its high ones
 abbrev pub headed : ℕ → Bool → ℕ → ℕ
@@ -94,7 +94,7 @@ module _ (trip : Trip) (s swaps times made : ℕ) (some : 0 < s) where
   leg w = legOf trip s swaps w times made
 
   on-line : (w : Way) (x : Rec) (j i : ℕ)
-      → goTo s w (waitOf (ruleOf (leg w)) j) (headed s (lowAfter trip swaps) (x .aim)) i ≡ onLine (leg w) i (stepOf (ruleOf (leg w)) (headOf (ruleOf (leg w)) x) j (spot (leg w) i))
+      → going s w (waitOf (ruleOf (leg w)) j) (headed s (lowAfter trip swaps) (x .aim)) i ≡ onLine (leg w) i (stepOf (ruleOf (leg w)) (headOf (ruleOf (leg w)) x) j (spot (leg w) i))
   on-line Right x j i =
       rw (head-digit s some Right (lowAfter trip swaps) (x .aim), place-digit s some Right i) (one-up (leg Right) some i _ (waitOf (ruleOf (leg Right)) j))
   on-line Left x j i =
@@ -106,14 +106,14 @@ module _ (trip : Trip) (s swaps times made : ℕ) (some : 0 < s) where
 
   -- move after move
   pub walked : (w : Way) (x : Rec) (at : ℕ → ℕ) (m : ℕ)
-      → ((j : ℕ) → j < m → at (suc j) ≡ goTo s w (waitFor trip (times - j)) (headed s (lowAfter trip swaps) (x .aim)) (at j))
+      → ((j : ℕ) → j < m → at (suc j) ≡ going s w (waitFor trip (times - j)) (headed s (lowAfter trip swaps) (x .aim)) (at j))
       → at m ≡ atCell (legOf trip s swaps w times made) (headOf (ruleOf (legOf trip s swaps w times made)) x) (at 0) m
   unfolding reach
   walked w x at zero h = sym (own-spot (leg w) some (at 0))
   walked w x at (suc m) h =
       let q< = reach< (leg w) some (headOf (ruleOf (leg w)) x) (spot (leg w) (at 0)) m (head< (leg w) some x) (spot< (leg w) some (at 0)) in
       h m (omega arith)
-      ∙ ap (λ (n : ℕ). goTo s w (cond (isLate trip) n 0) (headed s (lowAfter trip swaps) (x .aim)) (at m)) (omega arith)
+      ∙ ap (λ (n : ℕ). going s w (cond (isLate trip) n 0) (headed s (lowAfter trip swaps) (x .aim)) (at m)) (omega arith)
       ∙ on-line w x m (at m)
       ∙ ap (λ (i : ℕ). onLine (leg w) i (stepOf (ruleOf (leg w)) (headOf (ruleOf (leg w)) x) m (spot (leg w) i))) (walked w x at m (λ j u. h j (omega arith)))
       ∙ ap (λ (p : ℕ). onLine (leg w) (atCell (leg w) (headOf (ruleOf (leg w)) x) (at 0) m) (stepOf (ruleOf (leg w)) (headOf (ruleOf (leg w)) x) m p))

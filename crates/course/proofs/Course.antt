@@ -35,7 +35,7 @@ use Rattle.course.specs.Showing.{contentOf, changed, Shows}
 use Rattle.course.proofs.Content.{Rising, Fits, Runs, ran-content, ran-same}
 use Rattle.course.proofs.Counting.{swap-count, run-count}
 use Rattle.course.proofs.Spots.{spot, onLine, atCell}
-use Rattle.course.proofs.Bridge.{goTo, headed, waitFor, walked}
+use Rattle.course.proofs.Bridge.{going, headed, waitFor, walked}
 
 content-same : (b : ℕ) (R : ℕ → Rec) {pos post : ℕ → ℕ} → ((r : ℕ) → r < b → pos r ≡ post r) → (j : ℕ) → contentOf b R pos j ≡ contentOf b R post j
 unfolding contentOf
@@ -65,7 +65,7 @@ content-swapped {s} some (suc b) R pos h j l = rw (turn, content-swapped some b 
 -- the cell of a record of that aim after a move of a list
 abbrev pub wentTo : Trip → ℕ → Turn → Move → ℕ → ℕ → ℕ
 wentTo trip s x Swap aim i = partner s i
-wentTo trip s x (Electronic w) aim i = goTo s w (waitFor trip (x .left)) (headed s (lowAfter trip (x .swaps)) aim) i
+wentTo trip s x (Electronic w) aim i = going s w (waitFor trip (x .left)) (headed s (lowAfter trip (x .swaps)) aim) i
 
 -- a move of a list takes the records from pos to post
 pub record Step (trip : Trip) (s : ℕ) (x : Turn) (b : ℕ) (R : ℕ → Rec) (pos post : ℕ → ℕ) : Type 0 where
@@ -102,7 +102,7 @@ module _ {trip : Trip} {s b swaps times m : ℕ} {R : ℕ → Rec} {pos : ℕ �
       → pos k r ≡ atCell (legOf trip s swaps w times made) (headOf (ruleOf (legOf trip s swaps w times made)) (R r)) (pos 0 r) k
   came {w} made k c l r u =
       walked trip s swaps times made some w (R r) (λ k. pos k r) k
-      (λ j v. c .next j (omega arith) r u ∙ ap (λ (n : ℕ). goTo s w (waitFor trip (times - j)) (headed s (lowAfter trip n) (R r .aim)) (pos j r)) (add-zero swaps))
+      (λ j v. c .next j (omega arith) r u ∙ ap (λ (n : ℕ). going s w (waitFor trip (times - j)) (headed s (lowAfter trip n) (R r .aim)) (pos j r)) (add-zero swaps))
 
   run-shows : (x : Move) → Part trip s x swaps times m b R pos → Shows s b R (pos m) (ranBy trip s swaps x times m T)
   run-shows Swap c = swaps-show c m (omega arith)

@@ -4,3 +4,5 @@ pub mod Counting
 pub mod Course
 pub mod Holds
 pub mod Spots
+pub mod Standing
+pub mod Turning
