@@ -1,14 +1,14 @@
 -- Records counted in the cells that hold them: any weight of the records, summed over the cells or over the records. So what a swap counts and what a move of a run counts are the records in another cell afterwards.
-use Prim.Native.Nat.{ℕ, zero, suc, _+_, _<_}
-use mathlib.Core.Path.{_≡_, refl, sym, ap, ap₂, _∙_}
-use mathlib.Core.Logic.{_⊎_, inl, inr, ⊎-elim}
+use Prim.Native.Nat.{ℕ, suc, _+_, _<_}
+use mathlib.Core.Path.{_≡_, refl, sym, ap, _∙_}
+use mathlib.Core.Logic.{⊎-elim}
 use mathlib.Core.Bool.{Bool, true, false, cond}
 use native.Mathlib.Omega.{arith}
-use borrow.Author.Tests.{eqb-true, eq-eqb, ne-eqb}
+use borrow.Author.Tests.{eq-eqb, ne-eqb}
 use lib.Dec.{eqb}
 use Rattle.laws.specs.Sums.{sum}
 use Rattle.laws.proofs.Sums.{sum-cong}
-use Rattle.laws.proofs.Totals.{sum-zero, sum-point, sum-swap}
+use Rattle.laws.proofs.Totals.{sum-zero, sum-point, sum-two, sum-swap}
 use Rattle.laws.proofs.Deciding.{same?}
 use Rattle.array.specs.Cells.{cells, partner}
 use Rattle.slots.specs.declared.Rec.{Rec}
@@ -21,15 +21,6 @@ use Rattle.course.specs.Showing.{contentOf, changed}
 use Rattle.course.proofs.Holds.{Holds, hold0, hold1, hold2}
 use Rattle.course.proofs.Content.{Rising, Fits, At, content-holds}
 use Rattle.course.proofs.Spots.{spot, onLine, atCell, spot<, line-one, reach<, head<}
-
--- a sum of which two terms count
-sum-two : (f : ℕ → ℕ) (n i j : ℕ) → i < j → j < n → ((k : ℕ) → k < n → (k ≡ i → ⊥) → (k ≡ j → ⊥) → f k ≡ 0) → sum n f ≡ f i + f j
-sum-two f zero i j l h g = absurd (omega arith)
-sum-two f (suc n) i j l h g =
-    ⊎-elim
-    (λ e. omega (arith, sum-point f n i (omega arith) (λ k u d. g k (omega arith) d (λ v. omega arith)), ap f e))
-    (λ d. omega (arith, sum-two f n i j l (omega (arith, d)) (λ k u. g k (omega arith)), g n (omega arith) (λ e. omega (arith, d)) (λ e. d (sym e))))
-    (same? j n)
 
 -- what the records of a cell weigh, where nothing weighs nothing
 module _ {R : ℕ → Rec} {b : ℕ} (z : Rising b R) (pos : ℕ → ℕ) (fits : Fits b pos) (w : ℕ → Rec → ℕ) (none : (i : ℕ) → w i nothing ≡ 0) where

@@ -1,17 +1,16 @@
 -- A list of moves, made on cells that show records: after each move they show them where it takes them, and its count is of those in another cell.
-use Prim.Native.Nat.{ℕ, zero, suc, _+_, _-_, _≤_, _<_, min}
+use Prim.Native.Nat.{ℕ, zero, suc, _+_, _-_, _≤_, _<_}
 use mathlib.Core.Path.{_≡_, refl, sym, ap, ap₂, _∙_, subst}
 use mathlib.Core.Logic.{_⊎_, ⊎-elim}
-use mathlib.Core.Bool.{Bool, true, false, cond}
+use mathlib.Core.Bool.{cond}
 use mathlib.Core.List.{List, [], _∷_, _++_}
-use native.Mathlib.Nat.{add-zero, zero-add, add-suc, suc-add, min-le-left, min-le-right, min-eq-left, min-eq-right}
+use native.Mathlib.Nat.{add-zero, add-suc, min-le-left, min-le-right, min-eq-left, min-eq-right}
 use native.Mathlib.Omega.{arith}
 use borrow.Author.Tests.{eq-eqb, ne-eqb}
 use lib.Dec.{eqb}
-use Rattle.laws.specs.Sums.{sum}
 use Rattle.laws.specs.Tables.{entries}
 use Rattle.laws.proofs.Sums.{sum-cong}
-use Rattle.laws.proofs.Tables.{entries-cong}
+use Rattle.laws.proofs.Tables.{entries-cong, entries-parts}
 use Rattle.laws.proofs.Deciding.{apart, same?}
 use Rattle.array.specs.declared.moves.Way.{Way}
 use Rattle.array.specs.declared.moves.Move.{Move}
@@ -29,12 +28,12 @@ use Rattle.slots.specs.declared.Cell.{Cell}
 use Rattle.slots.specs.Cells.{marksIn}
 use Rattle.mesh.specs.declared.Leg.{Leg}
 use Rattle.mesh.specs.Lines.{headOf, goesAt}
-use Rattle.mesh.specs.Mesh.{ruleOf, ranOn, goneIn}
+use Rattle.mesh.specs.Mesh.{ruleOf}
 use Rattle.mover.specs.Runs.{lowAfter, legOf, swapped, ranBy, goneBy, madeOf, after, movedLog}
 use Rattle.course.specs.Showing.{contentOf, changed, Shows}
 use Rattle.course.proofs.Content.{Rising, Fits, Runs, ran-content, ran-same}
 use Rattle.course.proofs.Counting.{swap-count, run-count}
-use Rattle.course.proofs.Spots.{spot, onLine, atCell}
+use Rattle.course.proofs.Spots.{spot, atCell}
 use Rattle.course.proofs.Bridge.{going, headed, waitFor, walked}
 
 content-same : (b : ℕ) (R : ℕ → Rec) {pos post : ℕ → ℕ} → ((r : ℕ) → r < b → pos r ≡ post r) → (j : ℕ) → contentOf b R pos j ≡ contentOf b R post j
@@ -136,19 +135,6 @@ module _ {trip : Trip} {s b swaps times m : ℕ} {R : ℕ → Rec} {pos : ℕ �
       gone : ℕ → Cell → ℕ
       gone i c = goesAt (ruleOf (legOf trip s swaps w times times)) k (spot (legOf trip s swaps w times times) i) (c .front)
           + goesAt (ruleOf (legOf trip s swaps w times times)) k (spot (legOf trip s swaps w times times) i) (c .spare)
-
--- entries of two parts
-entries-shift : {A : Type 0} (f g : ℕ → A) (i j n : ℕ) → ((k : ℕ) → k < n → f (i + k) ≡ g (j + k)) → entries f i n ≡ entries g j n
-entries-shift f g i j zero h = refl
-entries-shift {A} f g i j (suc n) h =
-    ap₂ {C = List A} (λ x l. x ∷ l)
-    (ap f (sym (add-zero i)) ∙ h 0 (omega arith) ∙ ap g (add-zero j))
-    (entries-shift f g (suc i) (suc j) n (λ k u. ap f (omega arith) ∙ h (suc k) (omega arith) ∙ ap g (omega arith)))
-
-entries-parts : {A : Type 0} (f g : ℕ → A) (i m n : ℕ) → ((k : ℕ) → k < n → g k ≡ f (i + m + k)) → entries f i m ++ entries g 0 n ≡ entries f i (m + n)
-entries-parts {A} f g i zero n h = entries-shift g f 0 i n (λ k u. ap g (zero-add k) ∙ h k u ∙ ap f (omega arith)) ∙ ap {B = List A} (entries f i) (sym (zero-add n))
-entries-parts {A} f g i (suc m) n h =
-    ap {B = List A} (λ l. f i ∷ l) (entries-parts f g (suc i) m n (λ k u. h k u ∙ ap f (omega arith))) ∙ ap {B = List A} (entries f i) (sym (suc-add m n))
 
 module _ {trip : Trip} {s b : ℕ} {R : ℕ → Rec} (some : 0 < s) where
   -- the course of a list is that of its first run, and that of the others

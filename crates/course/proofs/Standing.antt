@@ -1,12 +1,9 @@
 -- Records that stand where concentrate has them: every move of concentrate takes them on, and every move of distribute takes them back.
 use Prim.Native.Nat.{ℕ, zero, suc, _+_, _-_, _*_, _/_, _%_, _≤_, _<_}
 use mathlib.Core.Path.{_≡_, refl, sym, ap, _∙_, subst}
-use mathlib.Core.Bool.{cond}
 use native.Mathlib.Nat.{mod-eq-of-lt, mul-pos, lt-of-le-of-lt, div-lt-iff-lt-mul}
 use native.Mathlib.Omega.{arith}
 use borrow.Author.Tests.{ne-eqb}
-use lib.Dec.{eqb}
-use Rattle.array.specs.declared.moves.Way.{Way}
 use Rattle.array.specs.declared.moves.Move.{Move}
 use Rattle.array.specs.Cells.{groups, cells, partner}
 use Rattle.array.proofs.Board.{partner-twice}
@@ -24,7 +21,7 @@ use Rattle.mover.specs.Runs.{lowAfter}
 use Rattle.course.proofs.Bridge.{headed}
 use Rattle.course.proofs.Content.{Rising, Fits}
 use Rattle.course.proofs.Course.{wentTo, Step, Course}
-use Rattle.course.proofs.Turning.{Leg, Stage, leg, light, stage}
+use Rattle.course.proofs.Turning.{Stage, leg, light, stage}
 
 -- a record of the board heads by the rule for the place that it heads for
 first-two : (s aim : ℕ) → 1 ≤ s → aim < cells s → aim / groups s % groups s ≡ aim / groups s

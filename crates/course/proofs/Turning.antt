@@ -1,6 +1,6 @@
 -- Each move of concentrate, and the move of distribute that undoes it: where it takes a record, and that it takes it back.
 use Prim.Native.Nat.{ℕ, zero, suc, _+_, _-_, _*_, _≤_, _<_}
-use mathlib.Core.Path.{_≡_, refl, sym, ap, _∙_}
+use mathlib.Core.Path.{_≡_, sym, _∙_}
 use mathlib.Core.List.{List}
 use lib.ListN.{take}
 use native.Mathlib.Omega.{arith}
@@ -14,7 +14,7 @@ use Rattle.logs.specs.Runs.{moves}
 use Rattle.lists.specs.Lists.{concentrateRuns, distributeRuns}
 use Rattle.travel.specs.Travel.{toward, heading, travel, stands}
 use Rattle.travel.specs.Turns.{turnAt}
-use Rattle.travel.proofs.Walk.{seat, Heads}
+use Rattle.travel.proofs.Walk.{Heads}
 use Rattle.travel.proofs.Collide.{Starts, heads₁, heads₂}
 use Rattle.travel.proofs.Range.{stands-suc}
 use Rattle.travel.proofs.Moving.{made, seatOn, seatOn<, step-on, undone}
