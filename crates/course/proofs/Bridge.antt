@@ -19,7 +19,7 @@ use Rattle.mesh.specs.declared.Leg.{Leg}
 use Rattle.mesh.specs.Lines.{digitOf, waitOf, stepOf, reach, headOf}
 use Rattle.mesh.specs.Mesh.{strideOf, ruleOf}
 use Rattle.mover.specs.Runs.{lowAfter, isLate, legOf}
-use Rattle.course.proofs.Spots.{spot, onLine, atCell, own-spot, spot<, spot-line, line-line, reach<, head<}
+use Rattle.course.proofs.Lines.{spot, onLine, atCell, own-spot, spot<, spot-line, line-line, reach<, head<}
 
 -- the cell after one move of a record in cell i that heads for place h and waits so far from it
 abbrev pub going : ℕ → Way → ℕ → ℕ → ℕ → ℕ

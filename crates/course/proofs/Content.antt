@@ -16,7 +16,7 @@ use Rattle.mesh.specs.Lines.{endOf, leaves, goersOf, stayersOf, landed, laid}
 use Rattle.mesh.specs.Mesh.{ruleOf, ranOn}
 use Rattle.course.specs.Showing.{contentOf}
 use Rattle.course.proofs.Holds.{Holds, hold0, same-holds, holds-one, never, passes, join-none, joins, joins-both}
-use Rattle.course.proofs.Spots.{spot, onLine, spot<, own-spot, spot-line, line-line, line<, end<}
+use Rattle.course.proofs.Lines.{spot, onLine, spot<, own-spot, spot-line, line-line, line<, end<}
 
 -- records of rising aims
 pub record Rising (b : ℕ) (R : ℕ → Rec) : Type 0 where

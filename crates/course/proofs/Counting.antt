@@ -20,7 +20,7 @@ use Rattle.mesh.specs.Mesh.{ruleOf, goneIn}
 use Rattle.course.specs.Showing.{contentOf, changed}
 use Rattle.course.proofs.Holds.{Holds, hold0, hold1, hold2}
 use Rattle.course.proofs.Content.{Rising, Fits, At, content-holds}
-use Rattle.course.proofs.Spots.{spot, onLine, atCell, spot<, line-one, reach<, head<}
+use Rattle.course.proofs.Lines.{spot, onLine, atCell, spot<, line-one, reach<, head<}
 
 -- what the records of a cell weigh, where nothing weighs nothing
 module _ {R : ℕ → Rec} {b : ℕ} (z : Rising b R) (pos : ℕ → ℕ) (fits : Fits b pos) (w : ℕ → Rec → ℕ) (none : (i : ℕ) → w i nothing ≡ 0) where

@@ -33,7 +33,7 @@ use Rattle.mover.specs.Runs.{lowAfter, legOf, swapped, ranBy, goneBy, madeOf, a
 use Rattle.course.specs.Showing.{contentOf, changed, Shows}
 use Rattle.course.proofs.Content.{Rising, Fits, Runs, ran-content, ran-same}
 use Rattle.course.proofs.Counting.{swap-count, run-count}
-use Rattle.course.proofs.Spots.{spot, atCell}
+use Rattle.course.proofs.Lines.{spot, atCell}
 use Rattle.course.proofs.Bridge.{going, headed, waitFor, walked}
 
 content-same : (b : ℕ) (R : ℕ → Rec) {pos post : ℕ → ℕ} → ((r : ℕ) → r < b → pos r ≡ post r) → (j : ℕ) → contentOf b R pos j ≡ contentOf b R post j

@@ -3,6 +3,6 @@ pub mod Content
 pub mod Counting
 pub mod Course
 pub mod Holds
-pub mod Spots
+pub mod Lines
 pub mod Standing
 pub mod Turning
