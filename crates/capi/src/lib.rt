@@ -4,7 +4,7 @@ use answers::Answer;
 use ranking::rank;
 use records::entries::concentrate;
 use records::entries::distribute;
-ghost use mathlib.Core.Bool.{true, false};
+ghost use Rattle.lists.specs.declared.Trip.the-variants.{Concentrate, Distribute};
 ghost use Rattle.ranking.specs.Entries.{Ranked};
 ghost use Rattle.records.specs.Entries.{FullRun};
 
@@ -27,7 +27,7 @@ pub extern "C" fn otis_concentrate(
     codes: &mut [u8],
     moved: &mut [u16],
 ) -> Answer
-    ensures { λ r. ⌜ FullRun false side (now (words .entry)) (now (marks .entry)) (now (aims .entry)) (now («spare_words» .entry)) (now («spare_marks» .entry)) (now («spare_aims» .entry)) (now (words .exit)) (now (marks .exit)) (now (aims .exit)) (now («spare_words» .exit)) (now («spare_marks» .exit)) (now («spare_aims» .exit)) (now (codes .entry)) (now (codes .exit)) (now (moved .entry)) (now (moved .exit)) r ⌝ }
+    ensures { λ r. ⌜ FullRun Concentrate side (now (words .entry)) (now (marks .entry)) (now (aims .entry)) (now («spare_words» .entry)) (now («spare_marks» .entry)) (now («spare_aims» .entry)) (now (words .exit)) (now (marks .exit)) (now (aims .exit)) (now («spare_words» .exit)) (now («spare_marks» .exit)) (now («spare_aims» .exit)) (now (codes .entry)) (now (codes .exit)) (now (moved .entry)) (now (moved .exit)) r ⌝ }
 {
     concentrate(
         side,
@@ -54,7 +54,7 @@ pub extern "C" fn otis_distribute(
     codes: &mut [u8],
     moved: &mut [u16],
 ) -> Answer
-    ensures { λ r. ⌜ FullRun true side (now (words .entry)) (now (marks .entry)) (now (aims .entry)) (now («spare_words» .entry)) (now («spare_marks» .entry)) (now («spare_aims» .entry)) (now (words .exit)) (now (marks .exit)) (now (aims .exit)) (now («spare_words» .exit)) (now («spare_marks» .exit)) (now («spare_aims» .exit)) (now (codes .entry)) (now (codes .exit)) (now (moved .entry)) (now (moved .exit)) r ⌝ }
+    ensures { λ r. ⌜ FullRun Distribute side (now (words .entry)) (now (marks .entry)) (now (aims .entry)) (now («spare_words» .entry)) (now («spare_marks» .entry)) (now («spare_aims» .entry)) (now (words .exit)) (now (marks .exit)) (now (aims .exit)) (now («spare_words» .exit)) (now («spare_marks» .exit)) (now («spare_aims» .exit)) (now (codes .entry)) (now (codes .exit)) (now (moved .entry)) (now (moved .exit)) r ⌝ }
 {
     distribute(
         side,

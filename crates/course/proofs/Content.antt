@@ -1,26 +1,22 @@
--- From cells to records: cells that hold records where they stand hold them where they go, after an electronic move; and how many go.
-use Prim.Native.Nat.{ℕ, zero, suc, _-_, _≤_, _<_}
+-- From cells to records: cells that hold records where they stand hold them where they go, after a run of electronic moves.
+use Prim.Native.Nat.{ℕ, zero, suc, _≤_, _<_}
 use mathlib.Core.Path.{_≡_, refl, sym, ap, _∙_}
 use mathlib.Core.Logic.{_⊎_, inl, inr, ⊎-elim}
-use mathlib.Core.Bool.{Bool, true, false, cond}
+use mathlib.Core.Bool.{Bool, true, false, cond, not}
 use native.Mathlib.Omega.{arith}
-use borrow.Author.Tests.{eqb-true, eqb-false, eq-eqb, ne-eqb}
+use borrow.Author.Tests.{eqb-true, eqb-false, eq-eqb, ne-eqb, not-true, not-false}
 use lib.Dec.{eqb}
-use Rattle.laws.specs.Sums.{sum}
-use Rattle.laws.proofs.Sums.{sum-cong}
-use Rattle.laws.proofs.Totals.{sum-zero, sum-point, sum-swap}
-use Rattle.laws.proofs.Deciding.{apart}
-use Rattle.array.specs.Cells.{ahead, onward}
-use Rattle.array.specs.Moves.{opposite}
+use Rattle.laws.proofs.Deciding.{apart, same?}
+use Rattle.array.specs.Cells.{cells}
 use Rattle.slots.specs.declared.Rec.{Rec}
 use Rattle.slots.specs.declared.Cell.{Cell}
-use Rattle.mesh.specs.declared.moving.Rule.{Rule}
-use Rattle.slots.specs.Cells.{joined, countOf}
-use Rattle.mesh.specs.Mesh.{goesIn, goerOf, behind, arrivalOf, movedOf}
-use Rattle.mesh.proofs.Stepping.{stepped, from-behind, step-other}
-use Rattle.mesh.proofs.Sweep.{never, goes-ahead, no-arrival, an-arrival}
-use Rattle.course.specs.Showing.{contentOf, changed}
-use Rattle.course.proofs.Holds.{Holds, One, hold0, one0, one1, same-holds, same-one, holds-one, stays, leaves, joins}
+use Rattle.slots.specs.Cells.{nothing, joined, only}
+use Rattle.mesh.specs.declared.Leg.{Leg}
+use Rattle.mesh.specs.Lines.{endOf, leaves, goersOf, stayersOf, landed, laid}
+use Rattle.mesh.specs.Mesh.{ruleOf, ranOn}
+use Rattle.course.specs.Showing.{contentOf}
+use Rattle.course.proofs.Holds.{Holds, hold0, same-holds, holds-one, never, passes, join-none, joins, joins-both}
+use Rattle.course.proofs.Lines.{spot, onLine, spot<, own-spot, spot-line, line-line, line<, end<}
 
 -- records of rising aims
 pub record Rising (b : ℕ) (R : ℕ → Rec) : Type 0 where
@@ -35,25 +31,9 @@ Fits b pos = (i j k : ℕ) → i < j → j < k → k < b → pos i ≡ pos j →
 abbrev pub At : ℕ → (ℕ → ℕ) → ℕ → ℕ → Type 0
 At b pos j k = (k < b) × (pos k ≡ j)
 
--- the cell after one move of a record x in cell i
-abbrev pub nextOf : Rule → Rec → ℕ → ℕ
-nextOf t x i = cond (goesIn t i x) (onward (t .side) (t .way) i) i
-
--- at most one record of a cell goes
-abbrev pub Single : Rule → ℕ → (ℕ → Rec) → (ℕ → ℕ) → Type 0
-Single t b R pos = (i j : ℕ) → i < b → j < b → pos i ≡ pos j → goesIn t (pos i) (R i) ≡ true → goesIn t (pos i) (R j) ≡ true → i ≡ j
-
--- three records of which two are in order and the third is neither
-fits-any : {b : ℕ} {pos : ℕ → ℕ} → Fits b pos → (c i j k : ℕ) → i < j → (k ≡ i → ⊥) → (k ≡ j → ⊥) → At b pos c i → At b pos c j → At b pos c k → ⊥
-fits-any f c i j k l d e p q r =
-    ⊎-elim
-    (λ u. f k i j u l (q .0) (r .1 ∙ sym (p .1)) (p .1 ∙ sym (q .1)))
-    (λ u.
-    ⊎-elim
-    (λ v. f i k j (omega (arith, d)) v (q .0) (p .1 ∙ sym (r .1)) (r .1 ∙ sym (q .1)))
-    (λ v. f i j k l (omega (arith, e)) (r .0) (p .1 ∙ sym (q .1)) (q .1 ∙ sym (r .1)))
-    (apart k j))
-    (apart k i)
+-- so there is room for those that stand in one cell
+few : {b : ℕ} {pos : ℕ → ℕ} → Fits b pos → (c i j k : ℕ) → i < j → j < k → At b pos c i → At b pos c j → At b pos c k → ⊥
+few f c i j k l m p q r = f i j k l m (r .0) (p .1 ∙ sym (q .1)) (q .1 ∙ sym (r .1))
 
 module _ {R : ℕ → Rec} {b : ℕ} (z : Rising b R) (pos : ℕ → ℕ) (f : Fits b pos) where
   pub content-some : (n : ℕ) → n ≤ b → (j : ℕ) → Holds R (At n pos j) (contentOf n R pos j)
@@ -67,10 +47,7 @@ module _ {R : ℕ → Rec} {b : ℕ} (z : Rising b R) (pos : ℕ → ℕ) (f : F
           same-holds
           (λ k. ⊎-elim (λ q. (omega arith, q .1)) (λ q. (omega arith, ap pos q ∙ eqb-true (pos n) j e)))
           (λ k q. ⊎-elim (λ l. inl (l, q .1)) (λ l. inr (omega arith)) (apart k n))
-          (joins R b (z .marked) (z .rising) {Q = λ k. k ≡ n} (λ k q. omega arith) (λ k q. omega arith) (λ k q r. omega arith)
-          (λ i i′ k l p q r. f i i′ n l (q .0) (omega arith) (p .1 ∙ sym (q .1)) (q .1 ∙ sym (eqb-true (pos n) j e)))
-          s
-          (one1 n refl refl (λ k q. q)))
+          (joins R b (z .marked) (z .rising) (At b pos j) (λ k q. q .0) (few {pos = pos} f j) n (h, eqb-true (pos n) j e) (λ q. omega arith) (λ k q. (omega arith, q .1)) s)
       go false e s =
           same-holds
           (λ k q. (omega arith, q .1))
@@ -80,123 +57,158 @@ module _ {R : ℕ → Rec} {b : ℕ} (z : Rising b R) (pos : ℕ → ℕ) (f : F
   pub content-holds : (j : ℕ) → Holds R (At b pos j) (contentOf b R pos j)
   content-holds j = content-some b (omega arith) j
 
--- what an electronic move asks of the records that it moves
-pub record Movable (t : Rule) (b : ℕ) (R : ℕ → Rec) (pos : ℕ → ℕ) : Type 0 where
-  pub some : 0 < t .side
+-- a record leaves just where its way ends elsewhere
+leaving : (l : Leg) (p : ℕ) (x : Rec) → x .mark ≡ 1 → leaves (ruleOf l) p x ≡ not (eqb (endOf (ruleOf l) p x) p)
+unfolding leaves
+leaving l p x e = rw e
+
+-- what is put down of a cell is what of it ends here
+both-landed : (l : Leg) (p q : ℕ) (x c : Cell)
+    → landed (ruleOf l) p q (x .spare) (landed (ruleOf l) p q (x .front) c)
+    ≡ joined (joined c (only (eqb (endOf (ruleOf l) q (x .front)) p) (eqb (endOf (ruleOf l) q (x .spare)) p) x .front)) (only (eqb (endOf (ruleOf l) q (x .front)) p) (eqb (endOf (ruleOf l) q (x .spare)) p) x .spare)
+unfolding landed
+both-landed l p q x c = go (eqb (endOf (ruleOf l) q (x .front)) p) (eqb (endOf (ruleOf l) q (x .spare)) p)
+  where
+    go : (u v : Bool) → cond v (joined (cond u (joined c (x .front)) c) (x .spare)) (cond u (joined c (x .front)) c) ≡ joined (joined c (only u v x .front)) (only u v x .spare)
+    go true true = refl
+    go true false = sym (join-none (joined c (x .front)))
+    go false true = sym (join-none (joined c (x .spare)))
+    go false false = sym (join-none (joined c nothing) ∙ join-none c)
+
+-- what a run asks of the records that it moves
+pub record Runs (l : Leg) (b : ℕ) (R : ℕ → Rec) (pos post : ℕ → ℕ) : Type 0 where
+  pub some : 0 < l .side
   pub rising : Rising b R
   pub before : Fits b pos
-  pub after : Fits b (λ k. nextOf t (R k) (pos k))
-  pub single : Single t b R pos
+  pub after : Fits b post
+  pub next : (k : ℕ) → k < b → post k ≡ onLine l (pos k) (endOf (ruleOf l) (spot l (pos k)) (R k))
 
-module _ {t : Rule} {b : ℕ} {R : ℕ → Rec} {pos : ℕ → ℕ} (m : Movable t b R pos) where
-  abbrev post : ℕ → ℕ
-  post k = nextOf t (R k) (pos k)
+module _ {l : Leg} {b : ℕ} {R : ℕ → Rec} {pos post : ℕ → ℕ} (m : Runs l b R pos post) (i : ℕ) where
+  abbrev p : ℕ
+  p = spot l i
 
-  abbrev content : ℕ → Cell
-  content = contentOf b R pos
+  abbrev end : ℕ → ℕ → ℕ
+  end q k = endOf (ruleOf l) q (R k)
 
-  alone : (i : ℕ) (j k : ℕ) → At b pos i j → At b pos i k → goesIn t i (R j) ≡ true → goesIn t i (R k) ≡ true → j ≡ k
-  alone i j k u v e f = m .single j k (u .0) (v .0) (u .1 ∙ sym (v .1)) (rw (u .1) e) (rw (u .1) f)
+  abbrev line : ℕ → Cell
+  line q = contentOf b R pos (onLine l i q)
 
-  -- the record that leaves cell i
-  leaver : (i : ℕ) → One R (λ k. At b pos i k × (goesIn t i (R k) ≡ true)) (goerOf t i (content i))
-  leaver i = leaves t i R (At b pos i) (alone i) (content-holds (m .rising) pos (m .before) i)
+  -- record k comes from cell q of the line
+  abbrev From : ℕ → ℕ → Type 0
+  From q k = At b pos (onLine l i q) k
 
-  module _ (i : ℕ) where
-    abbrev Old : ℕ → Type 0
-    Old k = At b pos i k × (goesIn t i (R k) ≡ false)
+  -- it is here in the end, and was here before or in one of the first q cells
+  abbrev Here : ℕ → ℕ → Type 0
+  Here q k = At b post i k × ((spot l (pos k) ≡ p) ⊎ (spot l (pos k) < q))
 
-    abbrev New : ℕ → Type 0
-    New k = (0 < ahead (t .side) (opposite (t .way)) i) × (At b pos (behind t i) k × (goesIn t (behind t i) (R k) ≡ true))
+  p< : p < l .side
+  p< = spot< l (m .some) i
 
-    arrives : One R New (arrivalOf t content i)
-    arrives = ⊎-elim come none (apart 0 (ahead (t .side) (opposite (t .way)) i))
-      where
-        come : 0 < ahead (t .side) (opposite (t .way)) i → One R New (arrivalOf t content i)
-        come l = rw (an-arrival t content i l) (same-one (λ k g. (l, g)) (λ k n. n .1) (leaver (behind t i)))
+  -- from its cell on the line a record gets here just where its way ends here
+  was : (q k : ℕ) → q < l .side → From q k → spot l (pos k) ≡ q
+  was q k h f = ap (spot l) (f .1) ∙ spot-line l (m .some) i q h
 
-        none : ahead (t .side) (opposite (t .way)) i ≤ 0 → One R New (arrivalOf t content i)
-        none l = one0 (no-arrival t content i (omega arith)) (λ k n. omega (arith, n .0))
+  comes : (q k : ℕ) → q < l .side → From q k → end q k ≡ p → At b post i k
+  comes q k h f e = (
+    f .0,
+    m .next k (f .0)
+        ∙ ap (λ (j : ℕ). onLine l (pos k) (end j k)) (was q k h f)
+        ∙ ap (λ (j : ℕ). onLine l j (end q k)) (f .1)
+        ∙ line-line l (m .some) i q (end q k) h
+        ∙ ap (onLine l i) e
+        ∙ own-spot l (m .some) i,
+  )
 
-    old-post : (k : ℕ) → Old k → At b post i k
-    old-post k o = (o .0 .0, (rw (o .0 .1, o .1)))
+  ends : (k : ℕ) → At b post i k → end (spot l (pos k)) k ≡ p
+  ends k a = sym (spot-line l (m .some) (pos k) _ (end< l (m .some) (spot l (pos k)) (R k) (spot< l (m .some) (pos k)))) ∙ ap (spot l) (sym (m .next k (a .0)) ∙ a .1)
 
-    new-post : (k : ℕ) → New k → At b post i k
-    new-post k n = (n .1 .0 .0, rw (n .1 .0 .1, n .1 .1) (from-behind (m .some) (t .way) i (n .0) .1))
+  came : (k : ℕ) → At b post i k → From (spot l (pos k)) k
+  came k a = (
+    a .0,
+    sym (own-spot l (m .some) (pos k))
+        ∙ sym (line-line l (m .some) (pos k) _ (spot l (pos k)) (end< l (m .some) (spot l (pos k)) (R k) (spot< l (m .some) (pos k))))
+        ∙ ap (λ (j : ℕ). onLine l j (spot l (pos k))) (sym (m .next k (a .0)) ∙ a .1),
+  )
 
-    clash : (k : ℕ) → Old k → New k → ⊥
-    clash k o n =
-        let e : behind t i ≡ i = sym (n .1 .0 .1) ∙ o .0 .1 in
-        never (n .1 .1) (rw e (o .1))
+  leaving-true : (q k : ℕ) → k < b → (end q k ≡ q → ⊥) → leaves (ruleOf l) q (R k) ≡ true
+  leaving-true q k h d = leaving l q (R k) (m .rising .marked k h) ∙ ap not (ne-eqb (end q k) q d)
 
-    came : (k : ℕ) → At b post i k → Old k ⊎ New k
-    came k a = go (goesIn t (pos k) (R k)) refl
-      where
-        go : (c : Bool) → goesIn t (pos k) (R k) ≡ c → Old k ⊎ New k
-        go false f =
-            let e : pos k ≡ i = rw f at (a .1) in
-            inl ((a .0, e), rw e at f)
-        go true f =
-            let e : onward (t .side) (t .way) (pos k) ≡ i = rw f at (a .1) in
-            let x = stepped (m .some) (t .way) (pos k) (goes-ahead t (m .some) (pos k) (R k) f) in
-            let q : pos k ≡ behind t i = sym (x .undo) ∙ ap (behind t) e in
-            inr (rw e at (x .entered), ((a .0, q), rw q at f))
+  leaving-false : (q k : ℕ) → k < b → end q k ≡ q → leaves (ruleOf l) q (R k) ≡ false
+  leaving-false q k h e = leaving l q (R k) (m .rising .marked k h) ∙ ap not (eq-eqb (end q k) q e)
 
-    pub moved-content : movedOf t (contentOf b R pos) i ≡ contentOf b R (λ k. nextOf t (R k) (pos k)) i
-    unfolding movedOf
-    moved-content =
-        holds-one
-        (same-holds
-        (λ k. ⊎-elim (old-post k) (new-post k))
-        came
-        (joins R b (m .rising .marked) (m .rising .rising) (λ k o. o .0 .0) (λ k n. n .1 .0 .0) clash
-        (λ i′ j k l u v w. fits-any {pos = post} (m .after) i i′ j k l (λ d. clash i′ u (rw d at w)) (λ d. clash j v (rw d at w)) (old-post i′ u) (old-post j v) (new-post k w))
-        (stays t i R (At b pos i) (alone i) (content-holds (m .rising) pos (m .before) i))
-        arrives))
-        (content-holds (m .rising) post (m .after) i)
+  stayed : (k : ℕ) → From p k → leaves (ruleOf l) p (R k) ≡ false → end p k ≡ p
+  stayed k f e = eqb-true (end p k) p (not-false (eqb (end p k) p) (sym (leaving l p (R k) (m .rising .marked k (f .0))) ∙ e))
 
-  abbrev going : ℕ → Bool
-  going k = goesIn t (pos k) (R k)
+  -- what leaves cell q of the line and ends here
+  abbrev Comes : ℕ → ℕ → Type 0
+  Comes q k = (From q k × (leaves (ruleOf l) q (R k) ≡ true)) × (eqb (end q k) p ≡ true)
 
-  -- 1 where record k leaves cell i, else 0
-  abbrev from : ℕ → ℕ → ℕ
-  from i k = cond (eqb (pos k) i) (cond (going k) 1 0) 0
+  ended : (q k : ℕ) → Comes q k → end q k ≡ p
+  ended q k c = eqb-true (end q k) p (c .1)
 
-  from-zero : (i k : ℕ) → k < b → ((At b pos i k × (goesIn t i (R k) ≡ true)) → ⊥) → from i k ≡ 0
-  from-zero i k l d = go (eqb (pos k) i) refl (going k) refl
+  clash : (q k : ℕ) → q < l .side → Here q k → Comes q k → ⊥
+  clash q k h o c =
+      let e = was q k h (c .0 .0) in
+      ⊎-elim
+      (λ d. never (c .0 .1) (leaving-false q k (c .0 .0 .0) (ended q k c ∙ sym d ∙ e)))
+      (λ d. omega (arith, e))
+      (o .1)
+
+  next-here : (q k : ℕ) → q < l .side → Here (suc q) k → Here q k ⊎ Comes q k
+  next-here q k h o =
+      ⊎-elim
+      (λ e. inl (o .0, inl e))
+      (λ d.
+      ⊎-elim
+      (λ u. inl (o .0, inr u))
+      (λ u. go (omega arith))
+      (apart (spot l (pos k)) q))
+      (o .1)
     where
-      go : (x : Bool) → eqb (pos k) i ≡ x → (y : Bool) → going k ≡ y → _≡_ {A = ℕ} (cond x (cond y 1 0) 0) 0
-      go false e y f = refl
-      go true e false f = refl
-      go true e true f = let q = eqb-true (pos k) i e in absurd (d ((l, q), rw q at f))
+      go : spot l (pos k) ≡ q → Here q k ⊎ Comes q k
+      go e =
+          ⊎-elim
+          (λ f. inl (o .0, inl (e ∙ f)))
+          (λ f.
+          let g : end q k ≡ p = rw e at (ends k (o .0)) in
+          inr (((rw e at (came k (o .0))), leaving-true q k (o .0 .0) (λ d. f (sym d ∙ g))), eq-eqb (end q k) p g))
+          (same? q p)
 
-  from-one : (i k : ℕ) → At b pos i k × (goesIn t i (R k) ≡ true) → from i k ≡ 1
-  from-one i k c =
-      let e : going k ≡ true = rw (c .0 .1) (c .1) in
-      ap (λ (y : Bool). cond y (cond (going k) 1 0) 0) (eq-eqb (pos k) i (c .0 .1)) ∙ ap (λ (y : Bool). cond y 1 0) e
+  -- never three on the way, for there are never three at the end
+  laid-holds : (q : ℕ) → q ≤ l .side → Holds R (Here q) (laid (ruleOf l) (λ q. contentOf b R pos (onLine l i q)) (spot l i) q)
+  unfolding laid goersOf stayersOf
+  laid-holds zero h =
+      same-holds
+      (λ k o. (comes p k p< (o .0) (stayed k (o .0) (not-true (leaves (ruleOf l) p (R k)) (o .1))), inl (was p k p< (o .0))))
+      (λ k o.
+      let e : spot l (pos k) ≡ p = ⊎-elim (λ d. d) (λ d. absurd (omega arith)) (o .1) in
+      ((rw e at (came k (o .0))), ap not (leaving-false p k (o .0 .0) (rw e at (ends k (o .0))))))
+      (passes (λ x. not (leaves (ruleOf l) p x)) (content-holds (m .rising) pos (m .before) (onLine l i p)))
+  laid-holds (suc q) h =
+      rw (both-landed l p q (goersOf (ruleOf l) q (line q)) (laid (ruleOf l) line p q))
+      (same-holds
+      (λ k. ⊎-elim (λ o. (o .0, ⊎-elim (λ e. inl e) (λ d. inr (omega arith)) (o .1))) (λ c. (comes q k h (c .0 .0) (ended q k c), inr (omega (arith, was q k h (c .0 .0))))))
+      (λ k. next-here q k h)
+      (joins-both R b (m .rising .marked) (m .rising .rising) (At b post i) (λ k a. a .0) (few {pos = post} (m .after) i)
+      (λ k. clash q k h) (λ k o. o .0) (λ k c. comes q k h (c .0 .0) (ended q k c))
+      (laid-holds q (omega arith))
+      (passes (λ x. eqb (endOf (ruleOf l) q x) p) (passes (leaves (ruleOf l) q) (content-holds (m .rising) pos (m .before) (onLine l i q))))))
 
-  count-from : (i : ℕ) {x : Rec} → One R (λ k. At b pos i k × (goesIn t i (R k) ≡ true)) x → countOf x ≡ sum b (from i)
-  count-from i (one0 e n) = ap countOf e ∙ sym (sum-zero (from i) b (λ k l. from-zero i k l (n k)))
-  count-from i (one1 k e c n) =
-      ap countOf e ∙ ap (λ (y : ℕ). cond (eqb y 0) 0 1) (m .rising .marked k (c .0 .0))
-      ∙ sym (from-one i k c)
-      ∙ sym (sum-point (from i) b k (c .0 .0) (λ j l d. from-zero i j l (λ c′. d (n j c′))))
+  pub ran-content : ranOn (ruleOf l) (contentOf b R pos) i ≡ contentOf b R post i
+  unfolding ranOn
+  ran-content =
+      holds-one
+      (same-holds (λ k o. o .0) (λ k a. (a, inr (spot< l (m .some) (pos k)))) (laid-holds (l .side) (omega arith)))
+      (content-holds (m .rising) post (m .after) i)
 
-  each : (n k : ℕ) → pos k < n → sum n (λ i. from i k) ≡ cond (going k) 1 0
-  each n k h =
-      sum-point (λ i. from i k) n (pos k) h (λ i u d. rw (ne-eqb (pos k) i (λ e. d (sym e))))
-      ∙ rw (eq-eqb (pos k) (pos k) refl)
+-- a run looks at the cells of the board alone
+laid-same : (l : Leg) (U W : ℕ → Cell) → ((q : ℕ) → q < l .side → U q ≡ W q) → (p q : ℕ) → p < l .side → q ≤ l .side → laid (ruleOf l) U p q ≡ laid (ruleOf l) W p q
+unfolding laid
+laid-same l U W e p zero h u = ap (stayersOf (ruleOf l) p) (e p h)
+laid-same l U W e p (suc q) h u = rw (e q u, laid-same l U W e p q h (omega arith))
 
-  one-changed : (k : ℕ) → _≡_ {A = ℕ} (cond (going k) 1 0) (cond (eqb (pos k) (post k)) 0 1)
-  one-changed k = go (going k) refl
-    where
-      go : (a : Bool) → going k ≡ a → _≡_ {A = ℕ} (cond (going k) 1 0) (cond (eqb (pos k) (post k)) 0 1)
-      go true e =
-          rw e (rw (ne-eqb (pos k) (onward (t .side) (t .way) (pos k)) (λ f. step-other (m .some) (t .way) (pos k) (goes-ahead t (m .some) (pos k) (R k) e) (sym f))))
-      go false e = rw e (rw (eq-eqb (pos k) (pos k) refl))
-
-  pub goers-changed : (n : ℕ) → ((k : ℕ) → k < b → pos k < n) → sum n (λ i. countOf (goerOf t i (contentOf b R pos i))) ≡ changed b pos (λ k. nextOf t (R k) (pos k))
-  goers-changed n below =
-      sum-cong n (λ i u. count-from i (leaver i))
-      ∙ sum-swap from n b
-      ∙ sum-cong b (λ k u. each n k (below k u) ∙ one-changed k)
+pub ran-same : (l : Leg) → 0 < l .side → {T U : ℕ → Cell} → ((j : ℕ) → j < cells (l .side) → T j ≡ U j)
+    → (i : ℕ) → i < cells (l .side) → ranOn (ruleOf l) T i ≡ ranOn (ruleOf l) U i
+unfolding ranOn
+ran-same l some {T} {U} e i h =
+    laid-same l (λ q. T (onLine l i q)) (λ q. U (onLine l i q)) (λ q u. e (onLine l i q) (line< l some i q h u)) (spot l i) (l .side) (spot< l some i) (omega arith)

@@ -1,17 +1,14 @@
--- A cell holds exactly the records k with P k, of which there are at most two, in the order of k. A cell that a record leaves, the record that leaves, and a cell that a record comes into.
+-- A cell holds exactly the records k with P k, of which there are at most two, in the order of k. A cell of which some records are taken, and a cell that others come into.
 use Prim.Native.Nat.{ℕ, _<_}
 use mathlib.Core.Path.{_≡_, refl, sym, ap, ap₂, _∙_}
 use mathlib.Core.Logic.{_⊎_, inl, inr, ⊎-elim}
 use mathlib.Core.Bool.{Bool, true, false}
 use native.Mathlib.Omega.{arith}
 use borrow.Author.Tests.{lt-ltb, le-ltb}
+use Rattle.laws.proofs.Deciding.{apart}
 use Rattle.slots.specs.declared.Rec.{Rec}
 use Rattle.slots.specs.declared.Cell.{Cell}
-use Rattle.mesh.specs.declared.moving.Rule.{Rule}
-use Rattle.slots.specs.Cells.{nothing, empty, joined, firstOf, restOf}
-use Rattle.mesh.specs.Mesh.{goesIn, goerOf, stayedOf}
-use Rattle.mesh.proofs.Sweep.{never}
-use Rattle.laws.proofs.Deciding.{apart}
+use Rattle.slots.specs.Cells.{nothing, empty, joined, only}
 
 abbrev pair : Rec → Rec → Cell
 pair x y = record { front = x; spare = y }
@@ -21,19 +18,11 @@ pub data Holds (R : ℕ → Rec) (P : ℕ → Type 0) (c : Cell) : Type 0 where
   hold1 : (i : ℕ) → c ≡ pair (R i) nothing → P i → ((k : ℕ) → P k → k ≡ i) → Holds R P c
   hold2 : (i j : ℕ) → c ≡ pair (R i) (R j) → i < j → P i → P j → ((k : ℕ) → P k → (k ≡ i) ⊎ (k ≡ j)) → Holds R P c
 
-pub data One (R : ℕ → Rec) (P : ℕ → Type 0) (x : Rec) : Type 0 where
-  one0 : x ≡ nothing → ((k : ℕ) → P k → ⊥) → One R P x
-  one1 : (i : ℕ) → x ≡ R i → P i → ((k : ℕ) → P k → k ≡ i) → One R P x
-
 -- the same records under another name
 pub same-holds : {R : ℕ → Rec} {P Q : ℕ → Type 0} {c : Cell} → ((k : ℕ) → P k → Q k) → ((k : ℕ) → Q k → P k) → Holds R P c → Holds R Q c
 same-holds f g (hold0 e n) = hold0 e (λ k q. n k (g k q))
 same-holds f g (hold1 i e p n) = hold1 i e (f i p) (λ k q. n k (g k q))
 same-holds f g (hold2 i j e l p q n) = hold2 i j e l (f i p) (f j q) (λ k r. n k (g k r))
-
-pub same-one : {R : ℕ → Rec} {P Q : ℕ → Type 0} {x : Rec} → ((k : ℕ) → P k → Q k) → ((k : ℕ) → Q k → P k) → One R P x → One R Q x
-same-one f g (one0 e n) = one0 e (λ k q. n k (g k q))
-same-one f g (one1 i e p n) = one1 i e (f i p) (λ k q. n k (g k q))
 
 -- a cell is known by its records
 pub holds-one : {R : ℕ → Rec} {P : ℕ → Type 0} {c d : Cell} → Holds R P c → Holds R P d → c ≡ d
@@ -53,79 +42,95 @@ holds-one {R} (hold2 i j e l p q n) (hold2 i′ j′ e′ l′ p′ q′ n′) =
     jj : j ≡ j′
     jj = ⊎-elim (λ a. ⊎-elim (λ b. omega arith) (λ b. omega arith) (n′ i p)) (λ a. a) (n′ j q)
 
-no-none : (t : Rule) (p : ℕ) → goesIn t p nothing ≡ false
-unfolding goesIn
-no-none t p = refl
+-- a test passes or not
+pub never : {b : Bool} → b ≡ true → b ≡ false → ⊥
+never u v = let z : _≡_ {A = ℕ} 0 1 = cc in omega arith
 
-stay-pair : (t : Rule) (p : ℕ) {c : Cell} {x y : Rec} {a b : Bool} → c ≡ pair x y → goesIn t p x ≡ a → goesIn t p y ≡ b → stayedOf t p c ≡ restOf a b (pair x y)
-unfolding stayedOf
-stay-pair t p e u v = rw (e, u, v)
+-- those of a cell's records that pass a test
+only-none : (a b : Bool) → only a b empty ≡ empty
+only-none true true = refl
+only-none true false = refl
+only-none false true = refl
+only-none false false = refl
 
-goer-pair : (t : Rule) (p : ℕ) {c : Cell} {x y : Rec} {a b : Bool} → c ≡ pair x y → goesIn t p x ≡ a → goesIn t p y ≡ b → goerOf t p c ≡ firstOf a b (pair x y)
-unfolding goerOf
-goer-pair t p e u v = rw (e, u, v)
+module _ (g : Rec → Bool) where
+  passing : {c : Cell} {x y : Rec} {a b : Bool} → c ≡ pair x y → g x ≡ a → g y ≡ b → only (g (c .front)) (g (c .spare)) c ≡ only a b (pair x y)
+  passing e u v = rw (e, u, v)
 
-module _ (t : Rule) (p : ℕ) (R : ℕ → Rec) (P : ℕ → Type 0) (single : (i j : ℕ) → P i → P j → goesIn t p (R i) ≡ true → goesIn t p (R j) ≡ true → i ≡ j) where
-  pub stays : {c : Cell} → Holds R P c → Holds R (λ k. P k × (goesIn t p (R k) ≡ false)) (stayedOf t p c)
-  stays (hold0 e n) = hold0 (stay-pair t p e (no-none t p) (no-none t p)) (λ k q. n k (q .0))
-  stays {c} (hold1 i e pi n) = go (goesIn t p (R i)) refl
+  pub passes : {R : ℕ → Rec} {P : ℕ → Type 0} {c : Cell} → Holds R P c → Holds R (λ k. P k × (g (R k) ≡ true)) (only (g (c .front)) (g (c .spare)) c)
+  passes (hold0 e n) = hold0 (passing e refl refl ∙ only-none (g nothing) (g nothing)) (λ k q. n k (q .0))
+  passes {R} {P} {c} (hold1 i e p n) = go (g (R i)) refl (g nothing) refl
     where
-      go : (a : Bool) → goesIn t p (R i) ≡ a → Holds R (λ k. P k × (goesIn t p (R k) ≡ false)) (stayedOf t p c)
-      go true u = hold0 (stay-pair t p e u (no-none t p)) (λ k q. never u (rw (n k (q .0)) at (q .1)))
-      go false u = hold1 i (stay-pair t p e u (no-none t p)) (pi, u) (λ k q. n k (q .0))
-  stays {c} (hold2 i j e l pi pj n) = go (goesIn t p (R i)) (goesIn t p (R j)) refl refl
+      go : (a : Bool) → g (R i) ≡ a → (b : Bool) → g nothing ≡ b → Holds R (λ k. P k × (g (R k) ≡ true)) (only (g (c .front)) (g (c .spare)) c)
+      go true u true v = hold1 i (passing e u v) (p, u) (λ k q. n k (q .0))
+      go true u false v = hold1 i (passing e u v) (p, u) (λ k q. n k (q .0))
+      go false u true v = hold0 (passing e u v) (λ k q. never (rw (n k (q .0)) at (q .1)) u)
+      go false u false v = hold0 (passing e u v) (λ k q. never (rw (n k (q .0)) at (q .1)) u)
+  passes {R} {P} {c} (hold2 i j e l p q n) = go (g (R i)) refl (g (R j)) refl
     where
-      go : (a b : Bool) → goesIn t p (R i) ≡ a → goesIn t p (R j) ≡ b → Holds R (λ k. P k × (goesIn t p (R k) ≡ false)) (stayedOf t p c)
-      go true true u v = absurd (omega (arith, single i j pi pj u v))
-      go true false u v = hold1 j (stay-pair t p e u v) (pj, v) (λ k q. ⊎-elim (λ d. absurd (never u (rw d at (q .1)))) (λ d. d) (n k (q .0)))
-      go false true u v = hold1 i (stay-pair t p e u v) (pi, u) (λ k q. ⊎-elim (λ d. d) (λ d. absurd (never v (rw d at (q .1)))) (n k (q .0)))
-      go false false u v = hold2 i j (stay-pair t p e u v) l (pi, u) (pj, v) (λ k q. n k (q .0))
+      go : (a : Bool) → g (R i) ≡ a → (b : Bool) → g (R j) ≡ b → Holds R (λ k. P k × (g (R k) ≡ true)) (only (g (c .front)) (g (c .spare)) c)
+      go true u true v = hold2 i j (passing e u v) l (p, u) (q, v) (λ k r. n k (r .0))
+      go true u false v = hold1 i (passing e u v) (p, u) (λ k r. ⊎-elim (λ d. d) (λ d. absurd (never (rw d at (r .1)) v)) (n k (r .0)))
+      go false u true v = hold1 j (passing e u v) (q, v) (λ k r. ⊎-elim (λ d. absurd (never (rw d at (r .1)) u)) (λ d. d) (n k (r .0)))
+      go false u false v = hold0 (passing e u v) (λ k r. ⊎-elim (λ d. never (rw d at (r .1)) u) (λ d. never (rw d at (r .1)) v) (n k (r .0)))
 
-  pub leaves : {c : Cell} → Holds R P c → One R (λ k. P k × (goesIn t p (R k) ≡ true)) (goerOf t p c)
-  leaves (hold0 e n) = one0 (goer-pair t p e (no-none t p) (no-none t p)) (λ k q. n k (q .0))
-  leaves {c} (hold1 i e pi n) = go (goesIn t p (R i)) refl
-    where
-      go : (a : Bool) → goesIn t p (R i) ≡ a → One R (λ k. P k × (goesIn t p (R k) ≡ true)) (goerOf t p c)
-      go true u = one1 i (goer-pair t p e u (no-none t p)) (pi, u) (λ k q. n k (q .0))
-      go false u = one0 (goer-pair t p e u (no-none t p)) (λ k q. never (rw (n k (q .0)) at (q .1)) u)
-  leaves {c} (hold2 i j e l pi pj n) = go (goesIn t p (R i)) (goesIn t p (R j)) refl refl
-    where
-      go : (a b : Bool) → goesIn t p (R i) ≡ a → goesIn t p (R j) ≡ b → One R (λ k. P k × (goesIn t p (R k) ≡ true)) (goerOf t p c)
-      go true b u v = one1 i (goer-pair t p e u v) (pi, u) (λ k q. single k i (q .0) pi (q .1) u)
-      go false true u v = one1 j (goer-pair t p e u v) (pj, v) (λ k q. single k j (q .0) pj (q .1) v)
-      go false false u v = one0 (goer-pair t p e u v) (λ k q. ⊎-elim (λ d. never (rw d at (q .1)) u) (λ d. never (rw d at (q .1)) v) (n k (q .0)))
+pub join-none : (c : Cell) → joined c nothing ≡ c
+unfolding joined
+join-none c = refl
 
-module _ (R : ℕ → Rec) (b : ℕ) (marked : (k : ℕ) → k < b → R k .mark ≡ 1) (rising : (i j : ℕ) → i < j → j < b → R i .aim < R j .aim) where
-  join-empty : {c : Cell} {x : Rec} (k : ℕ) → k < b → c ≡ empty → x ≡ R k → joined c x ≡ pair (R k) nothing
+-- records put into a cell, where at most two have room: those with S k
+module _ (R : ℕ → Rec) (b : ℕ) (marked : (k : ℕ) → k < b → R k .mark ≡ 1) (rising : (i j : ℕ) → i < j → j < b → R i .aim < R j .aim)
+    (S : ℕ → Type 0) (below : (k : ℕ) → S k → k < b) (few : (i j k : ℕ) → i < j → j < k → S i → S j → S k → ⊥) where
+  join-empty : {c : Cell} (k : ℕ) → S k → c ≡ empty → joined c (R k) ≡ pair (R k) nothing
   unfolding joined
-  join-empty k h e f = rw (e, f) (rw (marked k h))
+  join-empty k s e = rw e (rw (marked k (below k s)))
 
-  join-after : {c : Cell} {x : Rec} (i k : ℕ) → i < k → k < b → c ≡ pair (R i) nothing → x ≡ R k → joined c x ≡ pair (R i) (R k)
+  join-after : {c : Cell} (i k : ℕ) → i < k → S i → S k → c ≡ pair (R i) nothing → joined c (R k) ≡ pair (R i) (R k)
   unfolding joined
-  join-after i k l h e f = rw (e, f) (rw (marked k h, marked i (omega arith), le-ltb (R k .aim) (R i .aim) (omega (arith, rising i k l h))))
+  join-after i k l r s e = rw e (rw (marked k (below k s), marked i (below i r), le-ltb (R k .aim) (R i .aim) (omega (arith, rising i k l (below k s)))))
 
-  join-before : {c : Cell} {x : Rec} (i k : ℕ) → k < i → i < b → c ≡ pair (R i) nothing → x ≡ R k → joined c x ≡ pair (R k) (R i)
+  join-before : {c : Cell} (i k : ℕ) → k < i → S i → S k → c ≡ pair (R i) nothing → joined c (R k) ≡ pair (R k) (R i)
   unfolding joined
-  join-before i k l h e f = rw (e, f) (rw (marked k (omega arith), marked i h, lt-ltb (R k .aim) (R i .aim) (rising k i l h)))
+  join-before i k l r s e = rw e (rw (marked k (below k s), marked i (below i r), lt-ltb (R k .aim) (R i .aim) (rising k i l (below i r))))
 
-  join-none : {c : Cell} {x : Rec} → x ≡ nothing → joined c x ≡ c
-  unfolding joined
-  join-none f = rw f
-
-  pub joins : {P Q : ℕ → Type 0} {c : Cell} {x : Rec} → ((k : ℕ) → P k → k < b) → ((k : ℕ) → Q k → k < b) → ((k : ℕ) → P k → Q k → ⊥)
-      → ((i j k : ℕ) → i < j → P i → P j → Q k → ⊥) → Holds R P c → One R Q x → Holds R (λ k. P k ⊎ Q k) (joined c x)
-  joins inP inQ apart′ room (hold0 e n) (one0 f m) = hold0 (join-none f ∙ e) (λ k. ⊎-elim (n k) (m k))
-  joins inP inQ apart′ room (hold0 e n) (one1 k f q m) = hold1 k (join-empty k (inQ k q) e f) (inr q) (λ i. ⊎-elim (λ r. absurd (n i r)) (m i))
-  joins inP inQ apart′ room (hold1 i e p n) (one0 f m) = hold1 i (join-none f ∙ e) (inl p) (λ k. ⊎-elim (n k) (λ r. absurd (m k r)))
-  joins {P} {Q} {c} {x} inP inQ apart′ room (hold1 i e p n) (one1 k f q m) = ⊎-elim later (λ l. ⊎-elim sooner (λ l′. absurd (meet (omega arith))) (apart k i)) (apart i k)
+  -- one record
+  pub joins : {P : ℕ → Type 0} {c : Cell} (k : ℕ) → S k → (P k → ⊥) → ((i : ℕ) → P i → S i) → Holds R P c → Holds R (λ i. P i ⊎ (i ≡ k)) (joined c (R k))
+  joins k s d inP (hold0 e n) = hold1 k (join-empty k s e) (inr refl) (λ i. ⊎-elim (λ p. absurd (n i p)) (λ q. q))
+  joins {P} {c} k s d inP (hold1 i e p n) = ⊎-elim later (λ l. ⊎-elim sooner (λ l′. absurd (meet (omega arith))) (apart k i)) (apart i k)
     where
       meet : k ≡ i → ⊥
-      meet d = apart′ i p (rw d at q)
+      meet f = d (rw f p)
 
-      later : i < k → Holds R (λ k. P k ⊎ Q k) (joined c x)
-      later l = hold2 i k (join-after i k l (inQ k q) e f) l (inl p) (inr q) (λ j. ⊎-elim (λ r. inl (n j r)) (λ r. inr (m j r)))
+      later : i < k → Holds R (λ i. P i ⊎ (i ≡ k)) (joined c (R k))
+      later l = hold2 i k (join-after i k l (inP i p) s e) l (inl p) (inr refl) (λ j. ⊎-elim (λ r. inl (n j r)) (λ r. inr r))
 
-      sooner : k < i → Holds R (λ k. P k ⊎ Q k) (joined c x)
-      sooner l = hold2 k i (join-before i k l (inP i p) e f) l (inr q) (inl p) (λ j. ⊎-elim (λ r. inr (n j r)) (λ r. inl (m j r)))
-  joins inP inQ apart′ room (hold2 i j e l p q n) (one0 f m) = hold2 i j (join-none f ∙ e) l (inl p) (inl q) (λ k. ⊎-elim (n k) (λ r. absurd (m k r)))
-  joins inP inQ apart′ room (hold2 i j e l p q n) (one1 k f r m) = absurd (room i j k l p q r)
+      sooner : k < i → Holds R (λ i. P i ⊎ (i ≡ k)) (joined c (R k))
+      sooner l = hold2 k i (join-before i k l (inP i p) s e) l (inr refl) (inl p) (λ j. ⊎-elim (λ r. inr (n j r)) (λ r. inl r))
+  joins {P} k s d inP (hold2 i j e l p q n) =
+      absurd
+      (⊎-elim
+      (λ u. few k i j u l s (inP i p) (inP j q))
+      (λ u.
+      ⊎-elim
+      (λ v. few i k j (omega (arith, other i p)) v (inP i p) s (inP j q))
+      (λ v. few i j k l (omega (arith, other j q)) (inP i p) (inP j q) s)
+      (apart k j))
+      (apart k i))
+    where
+      other : (h : ℕ) → P h → k ≡ h → ⊥
+      other h p f = d (rw f p)
+
+  -- both records of another cell
+  pub joins-both : {P Q : ℕ → Type 0} {c x : Cell} → ((k : ℕ) → P k → Q k → ⊥) → ((k : ℕ) → P k → S k) → ((k : ℕ) → Q k → S k)
+      → Holds R P c → Holds R Q x → Holds R (λ k. P k ⊎ Q k) (joined (joined c (x .front)) (x .spare))
+  joins-both {c = c} d inP inQ z (hold0 e n) = rw (e, join-none c, join-none c) (same-holds (λ k p. inl p) (λ k. ⊎-elim (λ p. p) (λ q. absurd (n k q))) z)
+  joins-both {c = c} d inP inQ z (hold1 i e q n) =
+      rw (e, join-none (joined c (R i)))
+      (same-holds (λ k. ⊎-elim (λ p. inl p) (λ f. inr (rw f q))) (λ k. ⊎-elim (λ p. inl p) (λ q. inr (n k q))) (joins i (inQ i q) (λ p. d i p q) inP z))
+  joins-both {P} {Q} d inP inQ z (hold2 i j e l q r n) =
+      rw e
+      (same-holds
+      (λ k. ⊎-elim (λ u. ⊎-elim (λ p. inl p) (λ f. inr (rw f q)) u) (λ f. inr (rw f r)))
+      (λ k. ⊎-elim (λ p. inl (inl p)) (λ u. ⊎-elim (λ f. inl (inr f)) (λ f. inr f) (n k u)))
+      (joins {P = λ k. P k ⊎ (k ≡ i)} j (inQ j r) (⊎-elim (λ p. d j p r) (λ f. omega arith)) (λ k. ⊎-elim (inP k) (λ f. rw f (inQ i q)))
+      (joins i (inQ i q) (λ p. d i p q) inP z)))

@@ -1,7 +1,7 @@
 -- The lanes of a job that was read, and the answer to them: it is the output of the verdict.
 use Prim.Native.Nat.{ℕ, _*_, _≤_, _<_}
 use mathlib.Core.Path.{_≡_, sym, ap, _∙_}
-use mathlib.Core.Bool.{true, false}
+use mathlib.Core.Bool.{true}
 use mathlib.Core.List.{List, []}
 use native.Mathlib.Omega.{arith}
 use lib.ListN.{length, getD, take, replicate, length-replicate, length-map, length-take}
@@ -11,6 +11,7 @@ use Rattle.laws.proofs.Sums.{sum-cong}
 use Rattle.laws.proofs.Tables.{entries-all}
 use Rattle.array.specs.Cells.{isSide, cells}
 use Rattle.array.proofs.Board.{side-known}
+use Rattle.lists.specs.declared.Trip.the-variants.{Concentrate}
 use Rattle.marks.specs.Marks.{rankIn}
 use Rattle.records.specs.Records.{markedCell, countIn, movedCounts}
 use Rattle.records.proofs.Marked.{cell-of}
@@ -96,7 +97,7 @@ module _ (s : ℕ) (es : List Marked) (side : isSide s ≡ true) (d : Rising 0 (
     few = small;
   }
 
-  moved-same : movedCounts false s (movesOf s) marks [] ≡ jobCounts s es
+  moved-same : movedCounts Concentrate s (movesOf s) marks [] ≡ jobCounts s es
   moved-same =
       ap (λ (b : ℕ). entries (changing s b (markedCell marks (cells s))) 0 (movesOf s)) counted
       ∙ counts-same s es (markedCell marks (cells s)) homes

@@ -1,12 +1,12 @@
 -- The end of a whole run of concentrate: cell r holds the word of the marked cell of rank r.
 use Prim.Native.Nat.{ℕ, _<_}
 use mathlib.Core.Path.{_≡_, refl, ap, _∙_}
-use mathlib.Core.Bool.{false}
 use mathlib.Core.List.{List}
 use native.Mathlib.Omega.{arith}
 use lib.ListN.{length, getD}
 use Rattle.array.specs.Cells.{cells}
 use Rattle.travel.proofs.Collide.{at-the-end}
+use Rattle.lists.specs.declared.Trip.the-variants.{Concentrate}
 use Rattle.slots.specs.declared.Rec.{Rec}
 use Rattle.slots.specs.declared.Cell.{Cell}
 use Rattle.slots.specs.Cells.{alone, cellAt}
@@ -26,8 +26,8 @@ own-cell : {s b : ℕ} {R : ℕ → Rec} {T : ℕ → Cell} → Rising b R → S
 own-cell z o r h u =
     o .cells r u ∙ holds-one (content-holds z (λ k. k) (fits-alone (λ i j v l e. omega arith)) r) (hold1 r refl (h, refl) (λ k q. q .1))
 
-module _ (s : ℕ) (some : 0 < s) (words marks aims : List ℕ) (long : length marks ≡ cells s) (good : Good false s marks aims) where
-  pub word-there : (w′ m′ a′ w₂′ m₂′ a₂′ : List ℕ) → Stood false s (totalMoves s) words marks aims (cellAt w′ m′ a′ w₂′ m₂′ a₂′)
+module _ (s : ℕ) (some : 0 < s) (words marks aims : List ℕ) (long : length marks ≡ cells s) (good : Good Concentrate s marks aims) where
+  pub word-there : (w′ m′ a′ w₂′ m₂′ a₂′ : List ℕ) → Stood Concentrate s (totalMoves s) words marks aims (cellAt w′ m′ a′ w₂′ m₂′ a₂′)
       → (r : ℕ) → r < countIn s marks → r < cells s → getD w′ r 0 ≡ getD words (markedCell marks (cells s) r) 0
   word-there w′ m′ a′ w₂′ m₂′ a₂′ o r h u =
       let k = good-ranked s marks aims long good in

@@ -16,6 +16,7 @@ use Rattle.answers.specs.declared.Answer.{Answer}
 use Rattle.array.specs.Cells.{isSide, cells}
 use Rattle.array.specs.Moves.{codeOf}
 use Rattle.logs.specs.Runs.{moves, electronic, swaps, codes as codesOf}
+use Rattle.lists.specs.declared.Trip.the-variants.{Concentrate}
 use Rattle.lists.specs.Lists.{concentrateRuns, prefixSumRuns}
 use Rattle.answers.specs.Answers.{verdict, accepted, acceptedBy}
 use Rattle.array.proofs.Board.{side-known}
@@ -43,7 +44,7 @@ module _ (s : ℕ) (side : isSide s ≡ true) (marks : List ℕ) (long : length 
       (side-passes s side, (lane-passes s (length marks) long, (lane-passes s aims e, (log-passes (prefixSumRuns s) log (omega (arith, prefix-sum-length s, side-known s side .most)), (marks-pass, tt)))))
 
   -- its aims are good
-  aim-good : (k : ℕ) → k < length marks → badAim false s marks (ranks s marks) k ≡ false
+  aim-good : (k : ℕ) → k < length marks → badAim Concentrate s marks (ranks s marks) k ≡ false
   aim-good k l = go (eqb (getD marks k 0) 1) refl
     where
       there : getD (ranks s marks) k 0 ≡ aimIn marks k
@@ -53,19 +54,19 @@ module _ (s : ℕ) (side : isSide s ≡ true) (marks : List ℕ) (long : length 
       go true e = let f : getD (ranks s marks) k 0 ≡ rankIn marks k = there ∙ rw e in rw (e, eq-eqb (getD (ranks s marks) k 0) (rankIn marks k) f)
       go false e = rw e
 
-  pub ranks-good : Good false s marks (ranks s marks)
+  pub ranks-good : Good Concentrate s marks (ranks s marks)
   ranks-good = record { marks-good = good; aims-good = aim-good }
 
-  aims-pass : aimsCase false s marks (ranks s marks) .applies ≡ false
+  aims-pass : aimsCase Concentrate s marks (ranks s marks) .applies ≡ false
   aims-pass =
-      le-ltb (first (badAim false s marks (ranks s marks)) (length marks)) (length marks)
-      (omega (arith, all-passed (badAim false s marks (ranks s marks)) (length marks) aim-good))
+      le-ltb (first (badAim Concentrate s marks (ranks s marks)) (length marks)) (length marks)
+      (omega (arith, all-passed (badAim Concentrate s marks (ranks s marks)) (length marks) aim-good))
 
   -- concentrate accepts
   pub concentrate-accepts : (w a w₂ m₂ a₂ codes moved : ℕ) (b : Answer) → w ≡ cells s → a ≡ cells s → w₂ ≡ cells s → m₂ ≡ cells s → a₂ ≡ cells s → 51 ≤ codes → 51 ≤ moved
-      → verdict (fullCases false s w (length marks) a w₂ m₂ a₂ codes moved marks (ranks s marks)) b ≡ b
+      → verdict (fullCases Concentrate s w (length marks) a w₂ m₂ a₂ codes moved marks (ranks s marks)) b ≡ b
   concentrate-accepts w a w₂ m₂ a₂ codes moved b p q p₂ o₂ q₂ c m =
-      accepted-is (fullCases false s w (length marks) a w₂ m₂ a₂ codes moved marks (ranks s marks)) b (
+      accepted-is (fullCases Concentrate s w (length marks) a w₂ m₂ a₂ codes moved marks (ranks s marks)) b (
         side-passes s side,
         (
           lane-passes s w p,
@@ -96,7 +97,7 @@ module _ {s : ℕ} {w m a w₂ m₂ a₂ codes moved : List ℕ} (b : Board s w 
   long : length m ≡ cells s
   long = b .sized .marks
 
-  good : Good false s m (ranks s m)
+  good : Good Concentrate s m (ranks s m)
   good = ranks-good s (b .side) m long (b .marked)
 
   few : movesOf s ≤ 51
@@ -109,7 +110,7 @@ module _ {s : ℕ} {w m a w₂ m₂ a₂ codes moved : List ℕ} (b : Board s w 
       (k .aims-are ∙ rw e, ap length f ∙ length-sets codes 0 (codesOf (prefixSumRuns s)) ∙ b .codes-room)
 
   ran : {codes′ : List ℕ} → length codes′ ≡ 51 → {r : Answer} {w′ m′ a′ w₂′ m₂′ a₂′ codes″ moved″ : List ℕ}
-      → FullRun false s w m (ranks s m) w₂ m₂ a₂ w′ m′ a′ w₂′ m₂′ a₂′ codes′ codes″ moved moved″ r → Settled s w m w′ codes″ moved″
+      → FullRun Concentrate s w m (ranks s m) w₂ m₂ a₂ w′ m′ a′ w₂′ m₂′ a₂′ codes′ codes″ moved moved″ r → Settled s w m w′ codes″ moved″
   ran {codes′} c {r} {w′} {m′} {a′} {w₂′} {m₂′} {a₂′} {codes″} {moved″} z =
       let e = z .answer
       ∙ concentrate-accepts s (b .side) m long (b .marked) (length w) (length (ranks s m)) (length w₂) (length m₂) (length a₂) (length codes′) (length moved) (acceptedBy (concentrateRuns s))
@@ -118,10 +119,10 @@ module _ {s : ℕ} {w m a w₂ m₂ a₂ codes moved : List ℕ} (b : Board s w 
       let p = z .accepted n in
       record {
         coded = ap (take (movesOf s)) (z .coded n) ∙ front-of codes′ (codesOf (concentrateRuns s)) (movesOf s) (length-map (moves (concentrateRuns s)) codeOf ∙ concentrate-length s) (omega (arith, few));
-        counted = ap (take (movesOf s)) (p .counted) ∙ front-of moved (movedCounts false s (movesOf s) m []) (movesOf s) (length-entries _ 0 (movesOf s)) (omega (arith, few, b .moved-room));
+        counted = ap (take (movesOf s)) (p .counted) ∙ front-of moved (movedCounts Concentrate s (movesOf s) m []) (movesOf s) (length-entries _ 0 (movesOf s)) (omega (arith, few, b .moved-room));
         worded = word-there s (side-known s (b .side) .least) w m (ranks s m) long good w′ m′ a′ w₂′ m₂′ a₂′ (p .stood);
       }
 
   pub settled : {r₁ : Answer} {a′ codes′ : List ℕ} → Ranked s m a codes r₁ a′ codes′ → {r₂ : Answer} {w′ m′ a″ w₂′ m₂′ a₂′ codes″ moved″ : List ℕ}
-      → FullRun false s w m a′ w₂ m₂ a₂ w′ m′ a″ w₂′ m₂′ a₂′ codes′ codes″ moved moved″ r₂ → Settled s w m w′ codes″ moved″
+      → FullRun Concentrate s w m a′ w₂ m₂ a₂ w′ m′ a″ w₂′ m₂′ a₂′ codes′ codes″ moved moved″ r₂ → Settled s w m w′ codes″ moved″
   settled k z = ran (ranked k .1) (rw (ranked k .0) at z)

@@ -1,12 +1,13 @@
 -- What the program's inner functions ask and leave.
 use Prim.Native.Nat.{ℕ, _≤_, _<_}
 use mathlib.Core.Path.{_≡_}
-use mathlib.Core.Bool.{true, false}
+use mathlib.Core.Bool.{true}
 use mathlib.Core.List.{List, []}
 use lib.ListN.{length, getD, take}
 use Rattle.laws.specs.Tables.{entries}
 use Rattle.array.specs.Cells.{isSide, cells}
 use Rattle.logs.specs.Runs.{codes as codesOf}
+use Rattle.lists.specs.declared.Trip.the-variants.{Concentrate}
 use Rattle.lists.specs.Lists.{concentrateRuns}
 use Rattle.slots.specs.Cells.{Sized}
 use Rattle.records.specs.Records.{markedCell, countIn, movedCounts}
@@ -24,7 +25,7 @@ pub record Board (s : ℕ) (w m a w₂ m₂ a₂ codes moved : List ℕ) : Type 
 -- lanes that were ranked and concentrated: the logs of concentrate, and the word of the marked cell of rank r in cell r
 pub record Settled (s : ℕ) (w m w′ codes′ moved′ : List ℕ) : Type 0 where
   pub coded : take (movesOf s) codes′ ≡ codesOf (concentrateRuns s)
-  pub counted : take (movesOf s) moved′ ≡ movedCounts false s (movesOf s) m []
+  pub counted : take (movesOf s) moved′ ≡ movedCounts Concentrate s (movesOf s) m []
   pub worded : (r : ℕ) → r < countIn s m → r < cells s → getD w′ r 0 ≡ getD w (markedCell m (cells s) r) 0
 
 -- a board's words and marks, with so many marked cells
@@ -39,4 +40,4 @@ pub record Lanes (s marked : ℕ) (w m : List ℕ) : Type 0 where
 -- the answer to them: concentrate's moves and moved counts, and the words in the order of the ranks
 unfoldable pub lanesText : ℕ → ℕ → List ℕ → List ℕ → List ℕ
 lanesText s marked w m =
-    answerText (codesOf (concentrateRuns s)) (movedCounts false s (movesOf s) m []) (entries (λ r. getD w (markedCell m (cells s) r) 0) 0 marked)
+    answerText (codesOf (concentrateRuns s)) (movedCounts Concentrate s (movesOf s) m []) (entries (λ r. getD w (markedCell m (cells s) r) 0) 0 marked)

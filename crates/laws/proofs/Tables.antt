@@ -1,7 +1,7 @@
 -- Laws of lists that are given by a rule for their entries: entry k of those from i on is f (i + k).
 use Prim.Native.Nat.{ℕ, zero, suc, _+_, _<_}
 use mathlib.Core.Path.{_≡_, refl, sym, ap, ap₂, _∙_}
-use mathlib.Core.List.{List, _∷_}
+use mathlib.Core.List.{List, _∷_, _++_}
 use native.Mathlib.Nat.{add-zero, zero-add, add-suc, suc-add}
 use native.Mathlib.Omega.{arith}
 use lib.ListN.{length, getD, replicate}
@@ -28,12 +28,21 @@ module _ {A : Type 0} (f : ℕ → A) where
       (λ k u. h k (omega arith) ∙ sym (entry-at n k d (omega arith)))
 
 -- rules that agree have the same entries
-cong-from : {A : Type 0} {f g : ℕ → A} (i n : ℕ) → ((k : ℕ) → k < i + n → f k ≡ g k) → entries f i n ≡ entries g i n
-cong-from i zero h = refl
-cong-from {A} i (suc n) h = ap₂ {C = List A} (λ x l. x ∷ l) (h i (omega arith)) (cong-from (suc i) n (λ k u. h k (omega arith)))
+agree : {A : Type 0} (f g : ℕ → A) (i j n : ℕ) → ((k : ℕ) → k < n → f (i + k) ≡ g (j + k)) → entries f i n ≡ entries g j n
+agree f g i j zero h = refl
+agree {A} f g i j (suc n) h =
+    ap₂ {C = List A} (λ x l. x ∷ l)
+    (ap f (sym (add-zero i)) ∙ h 0 (omega arith) ∙ ap g (add-zero j))
+    (agree f g (suc i) (suc j) n (λ k u. ap f (omega arith) ∙ h (suc k) (omega arith) ∙ ap g (omega arith)))
 
 pub entries-cong : {A : Type 0} {f g : ℕ → A} (n : ℕ) → ((k : ℕ) → k < n → f k ≡ g k) → entries f 0 n ≡ entries g 0 n
-entries-cong n h = cong-from 0 n (λ k u. h k (omega arith))
+entries-cong {f = f} {g = g} n h = agree f g 0 0 n (λ k u. h (0 + k) (omega arith))
+
+-- entries in two parts
+pub entries-parts : {A : Type 0} (f g : ℕ → A) (i m n : ℕ) → ((k : ℕ) → k < n → g k ≡ f (i + m + k)) → entries f i m ++ entries g 0 n ≡ entries f i (m + n)
+entries-parts {A} f g i zero n h = agree g f 0 i n (λ k u. ap g (zero-add k) ∙ h k u ∙ ap f (omega arith)) ∙ ap {B = List A} (entries f i) (sym (zero-add n))
+entries-parts {A} f g i (suc m) n h =
+    ap {B = List A} (λ l. f i ∷ l) (entries-parts f g (suc i) m n (λ k u. h k u ∙ ap f (omega arith))) ∙ ap {B = List A} (entries f i) (sym (suc-add m n))
 
 -- a rule with one value
 same-from : {A : Type 0} (i n : ℕ) (x : A) → entries (λ k. x) i n ≡ replicate n x

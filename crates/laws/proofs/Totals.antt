@@ -20,6 +20,15 @@ sum-point f (suc n) i l h =
     (λ d. omega (arith, sum-point f n i (omega (arith, d)) (λ j u. h j (omega arith)), h n (omega arith) (λ e. d (sym e))))
     (same? i n)
 
+-- a sum of which two terms count
+pub sum-two : (f : ℕ → ℕ) (n i j : ℕ) → i < j → j < n → ((k : ℕ) → k < n → (k ≡ i → ⊥) → (k ≡ j → ⊥) → f k ≡ 0) → sum n f ≡ f i + f j
+sum-two f zero i j l h g = absurd (omega arith)
+sum-two f (suc n) i j l h g =
+    ⊎-elim
+    (λ e. omega (arith, sum-point f n i (omega arith) (λ k u d. g k (omega arith) d (λ v. omega arith)), ap f e))
+    (λ d. omega (arith, sum-two f n i j l (omega (arith, d)) (λ k u. g k (omega arith)), g n (omega arith) (λ e. omega (arith, d)) (λ e. d (sym e))))
+    (same? j n)
+
 sum-plus : (f g : ℕ → ℕ) (n : ℕ) → sum n (λ i. f i + g i) ≡ sum n f + sum n g
 sum-plus f g zero = refl
 sum-plus f g (suc n) = omega (arith, sum-plus f g n)

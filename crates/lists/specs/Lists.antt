@@ -1,9 +1,11 @@
 -- The move list of each operation but the shifts, in nine runs; a shorter list has runs of no moves.
 use Prim.Native.Nat.{ℕ, _-_}
-use mathlib.Core.Bool.{Bool, true, false, cond}
+use mathlib.Core.Bool.{cond}
 use mathlib.Core.List.{List, [], _∷_, _++_, map}
 use Rattle.array.specs.declared.moves.Way.the-variants.{Right, Left, Up, Down}
 use Rattle.logs.specs.declared.Run.{Run}
+use Rattle.lists.specs.declared.Trip.{Trip}
+use Rattle.lists.specs.declared.Trip.the-variants.{Concentrate, Distribute}
 use Rattle.array.specs.Cells.{place, group, row, column, isCell}
 use Rattle.array.specs.Moves.{swap, right, left, up, down}
 use Rattle.logs.specs.Runs.{noRuns, along, swapping, whole}
@@ -33,7 +35,7 @@ concentrateRuns s = map (whole (s - 1)) (right ∷ left ∷ up ∷ down ∷ swap
 abbrev pub distributeRuns : ℕ → List Run
 distributeRuns s = map (whole (s - 1)) (swap ∷ down ∷ right ∷ left ∷ swap ∷ up ∷ down ∷ right ∷ left ∷ [])
 
--- the list of concentrate, or of distribute, which goes back
-abbrev pub runsOf : Bool → ℕ → List Run
-runsOf false s = concentrateRuns s
-runsOf true s = distributeRuns s
+-- the list of a trip
+abbrev pub runsOf : Trip → ℕ → List Run
+runsOf Concentrate s = concentrateRuns s
+runsOf Distribute s = distributeRuns s

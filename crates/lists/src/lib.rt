@@ -88,14 +88,20 @@ pub fn distribute_runs(side: usize) -> [Run; 9]
     )
 }
 
-// The list of concentrate, or of distribute, which goes back.
-pub fn runs_of(back: bool, side: usize) -> [Run; 9]
-    ensures { λ r. ⌜ r ≡ runsOf back side ⌝ }
+// What the records are moved for: to the front, or back to the cells that their aims name.
+pub enum Trip {
+    Concentrate,
+    Distribute,
+}
+
+// The list of a trip.
+pub fn runs_of(trip: Trip, side: usize) -> [Run; 9]
+    ensures { λ r. ⌜ r ≡ runsOf trip side ⌝ }
 {
-    if back {
-        return distribute_runs(side);
+    match trip {
+        Trip::Concentrate => concentrate_runs(side),
+        Trip::Distribute => distribute_runs(side),
     }
-    concentrate_runs(side)
 }
 
 // From place p to its whole group.

@@ -1,51 +1,138 @@
--- The groups of a board move one after the other: the cells below base have moved, and the others are as they were.
+-- The lines of a group make a run one after the other, and so do the groups of a board.
 use Prim.Native.Nat.{ℕ, suc, _+_, _-_, _*_, _/_, _%_, _≤_, _<_}
 use mathlib.Core.Path.{_≡_, refl, sym, ap, ap₂, _∙_}
 use mathlib.Core.Logic.{⊎-elim}
-use mathlib.Core.Bool.{cond}
-use native.Mathlib.Nat.{suc-mul, mul-le-mul-right, mul-one, mul-pos, div-add-mod', mod-lt}
+use mathlib.Core.Bool.{Bool, true, false, cond}
+use mathlib.Core.List.{List}
+use native.Mathlib.Nat.{suc-mul, mul-le-mul-right, mul-pos, div-add-mod', mod-lt, add-zero, mul-one}
+use native.Mathlib.Numerals.{add-one}
 use native.Mathlib.Omega.{arith}
 use borrow.Author.Tests.{lt-ltb, le-ltb}
-use lib.Dec.{ltb}
+use lib.Dec.{eqb, ltb}
+use lib.ListN.{length, getD}
+use denote.Ref.{now}
 use Rattle.laws.specs.Sums.{sum}
-use Rattle.laws.proofs.Sums.{sum-cong, sum-add}
-use Rattle.laws.proofs.Totals.{sum-few}
-use Rattle.laws.proofs.Deciding.{apart}
+use Rattle.laws.proofs.Sums.{sum-cong, sum-add, sum-blocks}
+use Rattle.laws.proofs.Totals.{sum-few, sum-swap}
+use Rattle.laws.proofs.Deciding.{apart, same?}
 use Rattle.array.specs.Cells.{groups, cells, group}
 use Rattle.array.proofs.Board.{group-of}
+use Rattle.slots.specs.declared.Rec.{Rec}
 use Rattle.slots.specs.declared.Cell.{Cell}
-use Rattle.mesh.specs.declared.moving.Rule.{Rule}
-use Rattle.slots.specs.Cells.{countOf}
-use Rattle.mesh.specs.Mesh.{goerOf, movedOf}
-use Rattle.mesh.specs.Inside.{MovedPart}
-use Rattle.mesh.specs.Moved.{MovedAll}
-use Rattle.mesh.proofs.Sweep.{one-most}
-use Rattle.mesh.proofs.Parts.{moved-same}
+use Rattle.slots.specs.Lanes.{Slice, Lent}
+use Rattle.mesh.specs.declared.lines.Rule.{Rule}
+use Rattle.mesh.specs.Lines.{headOf, leaves, distanceOf, ranLine, wentOf, wentFrom}
+use Rattle.mesh.specs.Mesh.{spotOf, lineCell, ranOn, wentIn}
+use Rattle.mesh.specs.Inside.{Strided, lineStep, Lies, RanLine, RanGroup, RanPart, RanGroups}
+use Rattle.mesh.proofs.Lifting.{distinct}
+use Rattle.mesh.proofs.Spots.{by-stride, run-same, lineOf, Spotted, Split, spotted, split, line-in, line-cell, ran-spotted, ran-part, spot-shifted}
 
--- the cells below base have moved, of the groups below g
-pub record Ranged (t : Rule) (g base : ℕ) (T C : ℕ → Cell) (moved : ℕ) : Type 0 where
+-- few records leave a cell, and so a line and a group
+went-few : (t : Rule) (d p : ℕ) (x : Rec) → wentOf t d p x ≤ 1
+unfolding wentOf
+went-few t d p x = go (leaves t p x) (eqb d (distanceOf t p (headOf t x)))
+  where
+    go : (a b : Bool) → cond a (cond b 1 0) 0 ≤ 1
+    go true true = omega arith
+    go true false = omega arith
+    go false b = omega arith
+
+cell-few : (t : Rule) (d p : ℕ) (c : Cell) → wentFrom t d p c ≤ 2
+cell-few t d p c = omega (arith, went-few t d p (c .front), went-few t d p (c .spare))
+
+-- the lines below l have run, and the others are as they were
+pub record Lined (t : Rule) (l : ℕ) (T C : ℕ → Cell) (old counts : List ℕ) : Type 0 where
+  pub upto : l ≤ t .side
+  pub long : length counts ≡ 8
+  pub made : (i : ℕ) → i < groups (t .side) → C i ≡ cond (ltb (lineOf t i) l) (ranOn t T i) (T i)
+  pub count : (d : ℕ) → d < 8 → getD counts d 0 ≡ getD old d 0 + sum l (λ k. sum (t .side) (λ p. wentFrom t d p (T (k * lineStep t + p * t .stride))))
+
+pub lined-start : (t : Rule) (T : ℕ → Cell) {old : List ℕ} → length old ≡ 8 → Lined t 0 T T old old
+lined-start t T {old} e = record { upto = omega arith; long = e; made = λ i h. rw (le-ltb (lineOf t i) 0 (omega arith)); count = λ d h. sym (add-zero (getD old d 0)) }
+
+pub lined-few : {t : Rule} {l : ℕ} {T C : ℕ → Cell} {old counts : List ℕ} → t .side ≤ 8 → Lined t l T C old counts → (d : ℕ) → d < 8 → getD counts d 0 ≤ getD old d 0 + 128
+lined-few {t} {l} {T} few z d h =
+    let a : (k : ℕ) → sum (t .side) (λ p. wentFrom t d p (T (k * lineStep t + p * t .stride))) ≤ 16 = λ k.
+    omega (arith, few, sum-few (λ p. wentFrom t d p (T (k * lineStep t + p * t .stride))) 2 (λ p. cell-few t d p (T (k * lineStep t + p * t .stride))) (t .side)) in
+    omega (arith, z .count d h, z .upto, few, sum-few (λ k. sum (t .side) (λ p. wentFrom t d p (T (k * lineStep t + p * t .stride)))) 16 a l)
+
+pub line-lies : (t : Rule) → 0 < t .side → Strided t → groups (t .side) ≤ 64 → (l : ℕ) → l < t .side → Lies t (groups (t .side)) (l * lineStep t)
+line-lies t pos z few l h = record { inside = λ p u. line-in t pos z l p h u; short = few }
+
+module _ {t : Rule} {l : ℕ} {T C C′ : ℕ → Cell} {old now₁ : List ℕ} {counts : Lent} (pos : 0 < t .side) (stride : 0 < t .stride) (z : Strided t) (h : l < t .side)
+    (y : Lined t l T C old now₁) (r : RanLine t (l * lineStep t) C C′ counts) where
+  abbrev start : ℕ
+  start = l * lineStep t
+
+  -- the cells of line l are as they were
+  as-was : (p : ℕ) → p < t .side → C (start + p * t .stride) ≡ T (start + p * t .stride)
+  as-was p u = let x = spotted t pos z l p h u in rw (le-ltb (lineOf t (start + p * t .stride)) l (omega (arith, x .line))) at (y .made (start + p * t .stride) (line-in t pos z l p h u))
+
+  here : (i : ℕ) → i < groups (t .side) → lineOf t i ≡ l → C′ i ≡ ranOn t T i
+  here i u e =
+      let x = split t pos z i u in
+      let k : start + spotOf t i * t .stride ≡ i = ap (λ (n : ℕ). n * lineStep t + spotOf t i * t .stride) (sym e) ∙ x .is in
+      let v = spotted t pos z l (spotOf t i) h (x .spot<) in
+      ap C′ (sym k) ∙ r .made (spotOf t i) (x .spot<) ∙ run-same t (λ q w. as-was q w) (spotOf t i) (x .spot<)
+      ∙ sym (ran-spotted t start (spotOf t i) T (v .spot) (x .spot<)) ∙ ap (ranOn t T) k
+
+  there : (i : ℕ) → i < groups (t .side) → (lineOf t i ≡ l → ⊥) → C′ i ≡ C i
+  there i u d = r .kept i (λ p w e. d (ap (lineOf t) e ∙ spotted t pos z l p h w .line))
+
+  pub lined-step : now (counts .entry) ≡ now₁ → length (now (counts .exit)) ≡ 8 → Lined t (l + 1) T C′ old (now (counts .exit))
+  lined-step e k = rw add-one (record {
+    upto = omega arith;
+    long = k;
+    made = λ i u. ⊎-elim
+        (λ a. rw (lt-ltb (lineOf t i) (suc l) (omega arith)) (here i u a))
+        (λ a. there i u a ∙ y .made i u ∙ ap (λ (b : Bool). cond b (ranOn t T i) (T i)) (⊎-elim
+        (λ b. lt-ltb (lineOf t i) l b ∙ sym (lt-ltb (lineOf t i) (suc l) (omega arith)))
+        (λ b. le-ltb (lineOf t i) l b ∙ sym (le-ltb (lineOf t i) (suc l) (omega (arith, a, b))))
+        (apart (lineOf t i) l)))
+        (same? (lineOf t i) l);
+    count = λ d u. r .count d u ∙ ap₂ _+_ (ap (λ (b : List ℕ). getD b d 0) e ∙ y .count d u) (sum-cong (t .side) (λ p w. ap (wentFrom t d p) (as-was p w))) ∙ omega arith;
+  })
+
+-- the cells of a group, line by line and as they come
+by-cells : (t : Rule) → 0 < t .side → Strided t → (f : ℕ → ℕ) → sum (t .side) (λ l. sum (t .side) (λ p. f (l * lineStep t + p * t .stride))) ≡ sum (groups (t .side)) f
+by-cells t pos z f =
+    by-stride t pos z
+    (λ e g. rw (g, e) (sum-cong (t .side) (λ l u. sum-cong (t .side) (λ p v. ap (λ (n : ℕ). f (l * t .side + n)) (mul-one p))) ∙ sym (sum-blocks (t .side) (t .side) f)))
+    (λ e g. rw (g, e)
+    (sum-swap (λ l p. f (l * 1 + p * t .side)) (t .side) (t .side)
+    ∙ sum-cong (t .side) (λ p u. sum-cong (t .side) (λ l v. ap f (omega arith)))
+    ∙ sym (sum-blocks (t .side) (t .side) f)))
+
+pub lined-end : {t : Rule} {l : ℕ} {T C : ℕ → Cell} {old : List ℕ} {counts : Lent} → 0 < t .side → Strided t → t .side ≤ l → old ≡ now (counts .entry)
+    → Lined t l T C old (now (counts .exit)) → RanGroup t T C counts
+lined-end {t} {l} {T} {C} {old} {counts} pos z h e y =
+    let f : l ≡ t .side = omega (arith, y .upto) in
+    record {
+      made = λ i u. rw (lt-ltb (lineOf t i) l (omega (arith, f, split t pos z i u .line<))) at (y .made i u);
+      count = λ d u. y .count d u ∙ ap₂ (λ (k : List ℕ) (n : ℕ). getD k d 0 + sum n (λ k. sum (t .side) (λ p. wentFrom t d p (T (k * lineStep t + p * t .stride))))) e f
+          ∙ ap (λ (n : ℕ). getD (now (counts .entry)) d 0 + n) (sum-cong (t .side) (λ k v. sum-cong (t .side) (λ p w. ap (λ (n : ℕ). wentFrom t d n (T (k * lineStep t + p * t .stride))) (sym (spotted t pos z k p v w .spot))))
+          ∙ by-cells t pos z (λ i. wentFrom t d (spotOf t i) (T i)));
+    }
+
+-- the groups below g have run, whose cells are those below base
+pub record Ranged (t : Rule) (g base : ℕ) (T C : ℕ → Cell) (counts : List ℕ) : Type 0 where
   pub upto : base ≡ g * groups (t .side)
-  pub made : (i : ℕ) → i < cells (t .side) → C i ≡ cond (ltb i base) (movedOf t T i) (T i)
-  pub count : moved ≡ sum base (λ i. countOf (goerOf t i (T i)))
+  pub within : g ≤ groups (t .side)
+  pub long : length counts ≡ 8
+  pub made : (i : ℕ) → i < cells (t .side) → C i ≡ cond (ltb i base) (ranOn t T i) (T i)
+  pub count : (d : ℕ) → d < 8 → getD counts d 0 ≡ sum base (λ i. wentFrom t d (spotOf t i) (T i))
 
-pub count-few : (t : Rule) (T : ℕ → Cell) (n : ℕ) → sum n (λ i. countOf (goerOf t i (T i))) ≤ n
-count-few t T n = omega (arith, sum-few (λ i. countOf (goerOf t i (T i))) 1 (λ i. one-most (goerOf t i (T i))) n, mul-one n)
+pub ranged-start : (t : Rule) (T : ℕ → Cell) {old : List ℕ} → length old ≡ 8 → ((d : ℕ) → getD old d 0 ≡ 0) → Ranged t 0 0 T T old
+ranged-start t T e f = record { upto = omega arith; within = omega arith; long = e; made = λ i u. rw (le-ltb i 0 (omega arith)); count = λ d h. f d }
 
-pub part-few : {t : Rule} {base r : ℕ} {T U : ℕ → Cell} → MovedPart t base T U r → r ≤ groups (t .side)
-part-few {t} {base} {r} {T} m =
-    omega (arith, m .count, sum-few (λ p. countOf (goerOf t (base + p) (T (base + p)))) 1 (λ p. one-most (goerOf t (base + p) (T (base + p)))) (groups (t .side)), mul-one (groups (t .side)))
-
-pub ranged-few : {t : Rule} {g base moved : ℕ} {T C : ℕ → Cell} → Ranged t g base T C moved → moved ≤ base
-ranged-few {t} {g} {base} {moved} {T} z = omega (arith, z .count, count-few t T base)
-
-pub ranged-start : (t : Rule) (T : ℕ → Cell) → Ranged t 0 0 T T 0
-ranged-start t T = record { upto = omega arith; made = λ i u. rw (le-ltb i 0 (omega arith)); count = refl }
+pub ranged-few : {t : Rule} {g base : ℕ} {T C : ℕ → Cell} {counts : List ℕ} → base ≤ 4096 → Ranged t g base T C counts → (d : ℕ) → d < 8 → getD counts d 0 ≤ 8192
+ranged-few {t} {g} {base} {T} few z d h = omega (arith, few, z .count d h, sum-few (λ i. wentFrom t d (spotOf t i) (T i)) 2 (λ i. cell-few t d (spotOf t i) (T i)) base)
 
 -- the next group lies among the cells
 pub part-fits : (N g base : ℕ) → g < N → base ≡ g * N → base + N ≤ N * N
 part-fits N g base h e = omega (arith, mul-le-mul-right {m = suc g} {n = N} N h, suc-mul g N)
 
-module _ {t : Rule} {g base moved : ℕ} {T C : ℕ → Cell} (pos : 0 < t .side) (l : g < groups (t .side)) (z : Ranged t g base T C moved) where
+module _ {t : Rule} {g base : ℕ} {T C : ℕ → Cell} {now₁ : List ℕ} (pos : 0 < t .side) (strided : Strided t) (l : g < groups (t .side)) (z : Ranged t g base T C now₁) where
   abbrev N : ℕ
   N = groups (t .side)
 
@@ -53,36 +140,41 @@ module _ {t : Rule} {g base moved : ℕ} {T C : ℕ → Cell} (pos : 0 < t .side
   fits = part-fits N g base l (z .upto)
 
   -- the cells of group g are as they were
-  still : (i : ℕ) → group (t .side) i ≡ g → C i ≡ T i
-  still i e =
-      let p : i % N < N = mod-lt i (mul-pos pos pos) in
-      let d : i / N * N + i % N ≡ i = div-add-mod' i N in
-      let f : i / N * N ≡ base = ap (λ (n : ℕ). n * N) e ∙ sym (z .upto) in
-      rw (le-ltb i base (omega arith)) at (z .made i (omega (arith, fits)))
+  still : (i : ℕ) → i < N → C (base + i) ≡ T (base + i)
+  still i h = rw (le-ltb (base + i) base (omega arith)) at (z .made (base + i) (omega (arith, fits)))
 
-  pub ranged-step : {C′ : ℕ → Cell} {r : ℕ} → MovedPart t base C C′ r → Ranged t (g + 1) (base + groups (t .side)) T C′ (moved + r)
-  ranged-step {C′} {r} m = record {
+  -- a run of the group is one of the table as it was
+  ran-still : (i : ℕ) → i < N → ranOn t C (base + i) ≡ ranOn t T (base + i)
+  ran-still i h =
+      rw (z .upto)
+      (sym (ran-part t pos strided g (λ k. C (g * N + k)) C (λ k u. refl) i h)
+      ∙ ran-part t pos strided g (λ k. C (g * N + k)) T (λ k u. rw (z .upto) at (still k u)) i h)
+
+  pub ranged-step : {C′ : ℕ → Cell} {counts : Lent} → now (counts .entry) ≡ now₁ → length (now (counts .exit)) ≡ 8 → RanPart t base C C′ counts
+      → Ranged t (g + 1) (base + groups (t .side)) T C′ (now (counts .exit))
+  ranged-step {C′} {counts} e k m = record {
     upto = omega (arith, z .upto, suc-mul g N);
+    within = omega arith;
+    long = k;
     made = λ i u. ⊎-elim (below i u) (λ h. ⊎-elim (here i h) (above i u) (apart i (base + N))) (apart i base);
-    count = ap₂ _+_ (z .count) (m .count ∙ sum-cong N (λ p h. ap (λ (c : Cell). countOf (goerOf t (base + p) c)) (still (base + p) (rw (z .upto) (group-of (t .side) g p h))))) ∙ sym (sum-add base N (λ i. countOf (goerOf t i (T i))));
+    count = λ d h. m .count d h ∙ ap₂ _+_ (ap (λ (b : List ℕ). getD b d 0) e ∙ z .count d h) (sum-cong N (λ i u. ap (wentFrom t d (spotOf t (base + i))) (still i u))) ∙ sym (sum-add base N (λ i. wentFrom t d (spotOf t i) (T i)));
   }
     where
-      below : (i : ℕ) → i < cells (t .side) → i < base → C′ i ≡ cond (ltb i (base + N)) (movedOf t T i) (T i)
+      below : (i : ℕ) → i < cells (t .side) → i < base → C′ i ≡ cond (ltb i (base + N)) (ranOn t T i) (T i)
       below i u h = rw (lt-ltb i (base + N) (omega arith)) (m .before i h ∙ (rw (lt-ltb i base h) at (z .made i u)))
 
-      here : (i : ℕ) → base ≤ i → i < base + N → C′ i ≡ cond (ltb i (base + N)) (movedOf t T i) (T i)
+      here : (i : ℕ) → base ≤ i → i < base + N → C′ i ≡ cond (ltb i (base + N)) (ranOn t T i) (T i)
       here i h u =
           let e : base + (i - base) ≡ i = omega arith in
-          let q : group (t .side) i ≡ g = sym (ap (group (t .side)) e) ∙ ap (λ (n : ℕ). group (t .side) (n + (i - base))) (z .upto) ∙ group-of (t .side) g (i - base) (omega arith) in
-          rw (lt-ltb i (base + N) u) ((rw e at (m .made (i - base) (omega arith))) ∙ moved-same t pos C T i (λ j f. still j (f ∙ q)))
+          rw (lt-ltb i (base + N) u) (rw e at (m .made (i - base) (omega arith) ∙ ran-still (i - base) (omega arith)))
 
-      above : (i : ℕ) → i < cells (t .side) → base + N ≤ i → C′ i ≡ cond (ltb i (base + N)) (movedOf t T i) (T i)
+      above : (i : ℕ) → i < cells (t .side) → base + N ≤ i → C′ i ≡ cond (ltb i (base + N)) (ranOn t T i) (T i)
       above i u h = rw (le-ltb i (base + N) h) (m .after i h ∙ (rw (le-ltb i base (omega arith)) at (z .made i u)))
 
-pub ranged-end : {t : Rule} {g base moved : ℕ} {T C : ℕ → Cell} → g ≡ groups (t .side) → Ranged t g base T C moved → MovedAll t T C moved
-ranged-end {t} {g} {base} {moved} {T} e z =
-    let b : base ≡ cells (t .side) = z .upto ∙ ap (λ (n : ℕ). n * groups (t .side)) e in
+pub ranged-end : {t : Rule} {g base : ℕ} {T C : ℕ → Cell} {counts : Lent} → groups (t .side) ≤ g → Ranged t g base T C (now (counts .exit)) → RanGroups t T C counts
+ranged-end {t} {g} {base} {T} h z =
+    let b : base ≡ cells (t .side) = z .upto ∙ ap (λ (n : ℕ). n * groups (t .side)) (omega (arith, z .within)) in
     record {
       made = λ i u. rw (lt-ltb i base (omega arith)) at (z .made i u);
-      count = z .count ∙ ap (λ (n : ℕ). sum n (λ i. countOf (goerOf t i (T i)))) b;
+      went = λ d u. z .count d u ∙ ap (λ (n : ℕ). sum n (λ i. wentFrom t d (spotOf t i) (T i))) b;
     }

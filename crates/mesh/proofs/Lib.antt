@@ -1,8 +1,9 @@
-pub mod Digits
 pub mod Fractions
-pub mod Going
 pub mod Groups
+pub mod Laying
+pub mod Legs
+pub mod Lifting
 pub mod Parts
-pub mod Sending
-pub mod Stepping
-pub mod Sweep
+pub mod Ruling
+pub mod Spots
+pub mod Walking

@@ -1,27 +1,23 @@
--- A group's stretch of six lanes, lent and back: the cells of the part, and of the whole once the part is back. A move inside a group looks at no cell outside it.
+-- A group's stretch of six lanes, lent and back: the cells of the part, and of the whole once the part is back.
 use Prim.Native.Nat.{ℕ, _+_, _-_, _*_, _≤_, _<_}
 use mathlib.Core.Path.{_≡_, refl, sym, ap, ap₂, _∙_}
-use mathlib.Core.Logic.{⊎-elim}
 use mathlib.Core.List.{List, _++_}
-use native.Mathlib.Nat.{mod-eq-of-lt}
 use native.Mathlib.Omega.{arith}
 use lib.ListN.{length, getD, take, drop, length-drop, List·getD-append}
 use lib.Seq.{getD-take, getD-drop, getD-append-add, length-take-le}
+use denote.Ref.{now}
+use Rattle.laws.specs.Sums.{sum}
 use Rattle.laws.proofs.Sums.{sum-cong}
-use Rattle.laws.proofs.Deciding.{apart}
-use Rattle.array.specs.declared.moves.Way.{Way}
-use Rattle.array.specs.Cells.{groups, group, place, ahead, onward}
-use Rattle.array.specs.Moves.{opposite}
-use Rattle.array.proofs.Board.{place-of, group-of}
-use Rattle.slots.specs.declared.Rec.{Rec}
+use Rattle.array.specs.Cells.{groups}
 use Rattle.slots.specs.declared.Cell.{Cell}
-use Rattle.mesh.specs.declared.moving.Rule.{Rule}
-use Rattle.slots.specs.Cells.{joined, countOf, cellAt, Sized}
-use Rattle.mesh.specs.Mesh.{goesIn, goerOf, stayedOf, behind, arrivalOf, movedOf}
-use Rattle.mesh.specs.Inside.{MovedGroup, MovedPart}
+use Rattle.slots.specs.Cells.{cellAt, Sized}
+use Rattle.slots.specs.Lanes.{Lent}
 use Rattle.slots.proofs.Stored.{cell-ext}
-use Rattle.mesh.proofs.Stepping.{ahead-reach, stepped}
-use Rattle.mesh.proofs.Sweep.{no-arrival, an-arrival, behind-in}
+use Rattle.mesh.specs.declared.lines.Rule.{Rule}
+use Rattle.mesh.specs.Lines.{wentFrom}
+use Rattle.mesh.specs.Mesh.{spotOf, ranOn}
+use Rattle.mesh.specs.Inside.{Strided, RanGroup, RanPart}
+use Rattle.mesh.proofs.Spots.{ran-part, spot-shifted}
 
 abbrev pub part : ℕ → ℕ → List ℕ → List ℕ
 part a k l = take k (drop a l)
@@ -59,71 +55,6 @@ module _ (a k : ℕ) (l y : List ℕ) (h : a + k ≤ length l) (e : length y ≡
       ∙ getD-drop a l (k + d) 0
       ∙ ap (λ (n : ℕ). getD l n 0) q
 
--- a move of a cell looks at the cells of its group only
-module _ (t : Rule) (pos : 0 < t .side) (T U : ℕ → Cell) (i : ℕ) (same : (j : ℕ) → group (t .side) j ≡ group (t .side) i → T j ≡ U j) where
-  arrival-same : arrivalOf t T i ≡ arrivalOf t U i
-  arrival-same =
-      ⊎-elim
-      (λ l. an-arrival t T i l ∙ ap (goerOf t (behind t i)) (same (behind t i) (stepped pos (opposite (t .way)) i l .group)) ∙ sym (an-arrival t U i l))
-      (λ l. no-arrival t T i (omega arith) ∙ sym (no-arrival t U i (omega arith)))
-      (apart 0 (ahead (t .side) (opposite (t .way)) i))
-
-  pub moved-same : movedOf t T i ≡ movedOf t U i
-  unfolding movedOf
-  moved-same = ap₂ joined (ap (stayedOf t i) (same i refl)) arrival-same
-
--- a move inside a group is the same in each group
-module _ (t : Rule) (pos : 0 < t .side) (g : ℕ) where
-  abbrev N : ℕ
-  N = groups (t .side)
-
-  goes-place : (i j : ℕ) (x : Rec) → place (t .side) i ≡ place (t .side) j → goesIn t i x ≡ goesIn t j x
-  unfolding goesIn
-  goes-place i j x e = rw e
-
-  goer-place : (i j : ℕ) (c : Cell) → place (t .side) i ≡ place (t .side) j → goerOf t i c ≡ goerOf t j c
-  unfolding goerOf
-  goer-place i j c e = rw (goes-place i j (c .front) e, goes-place i j (c .spare) e)
-
-  stayed-place : (i j : ℕ) (c : Cell) → place (t .side) i ≡ place (t .side) j → stayedOf t i c ≡ stayedOf t j c
-  unfolding stayedOf
-  stayed-place i j c e = rw (goes-place i j (c .front) e, goes-place i j (c .spare) e)
-
-  placed : (p : ℕ) → p < N → place (t .side) (g * N + p) ≡ place (t .side) p
-  placed p h = place-of (t .side) g p h ∙ sym (mod-eq-of-lt h)
-
-  pub goer-shifted : (p : ℕ) → p < N → (c : Cell) → goerOf t (g * N + p) c ≡ goerOf t p c
-  goer-shifted p h c = goer-place (g * N + p) p c (placed p h)
-
-  ahead-shifted : (w : Way) (p : ℕ) → p < N → ahead (t .side) w (g * N + p) ≡ ahead (t .side) w p
-  ahead-shifted w p h = rw (ahead-reach (t .side) w (g * N + p), ahead-reach (t .side) w p, placed p h)
-
-  behind-shifted : (p : ℕ) → p < N → 0 < ahead (t .side) (opposite (t .way)) p → behind t (g * N + p) ≡ g * N + behind t p
-  behind-shifted p h l =
-      let x = stepped pos (opposite (t .way)) (g * N + p) (rw (ahead-shifted (opposite (t .way)) p h) l) in
-      x .is ∙ ap₂ (λ (a b : ℕ). a * N + onward (t .side) (opposite (t .way)) b) (group-of (t .side) g p h) (place-of (t .side) g p h)
-
-  -- T is the part from g * N on of U
-  module _ (T U : ℕ → Cell) (same : (p : ℕ) → p < groups (t .side) → T p ≡ U (g * groups (t .side) + p)) where
-    arrival-part : (p : ℕ) → p < N → arrivalOf t T p ≡ arrivalOf t U (g * N + p)
-    arrival-part p h = ⊎-elim comes (λ l. no-arrival t T p (omega arith) ∙ sym (no-arrival t U (g * N + p) (ahead-shifted (opposite (t .way)) p h ∙ omega arith))) (apart 0 (ahead (t .side) (opposite (t .way)) p))
-      where
-        comes : 0 < ahead (t .side) (opposite (t .way)) p → arrivalOf t T p ≡ arrivalOf t U (g * N + p)
-        comes l =
-            let u = behind-in t pos p h l in
-            an-arrival t T p l
-            ∙ ap (goerOf t (behind t p)) (same (behind t p) u)
-            ∙ sym (goer-shifted (behind t p) u (U (g * N + behind t p)))
-            ∙ ap (λ (j : ℕ). goerOf t j (U j)) (sym (behind-shifted p h l))
-            ∙ sym (an-arrival t U (g * N + p) (rw (ahead-shifted (opposite (t .way)) p h) l))
-
-    moved-part : (p : ℕ) → p < N → movedOf t T p ≡ movedOf t U (g * N + p)
-    unfolding movedOf
-    moved-part p h = ap₂ joined (ap (stayedOf t p) (same p h) ∙ sym (stayed-place (g * N + p) p (U (g * N + p)) (placed p h))) (arrival-part p h)
-
-    count-part : (p : ℕ) → p < N → countOf (goerOf t p (T p)) ≡ countOf (goerOf t (g * N + p) (U (g * N + p)))
-    count-part p h = ap countOf (ap (goerOf t p) (same p h) ∙ sym (goer-shifted p h (U (g * N + p))))
-
 pub part-sized : {w m a w₂ m₂ a₂ : List ℕ} {L : ℕ} (base k : ℕ) → Sized L w m a w₂ m₂ a₂ → base + k ≤ L → Sized k (part base k w) (part base k m) (part base k a) (part base k w₂) (part base k m₂) (part base k a₂)
 part-sized {w} {m} {a} {w₂} {m₂} {a₂} base k z f = record {
   words = part-long base k w (omega arith);
@@ -137,6 +68,7 @@ part-sized {w} {m} {a} {w₂} {m₂} {a₂} base k z f = record {
 module _
     (t : Rule)
     (pos : 0 < t .side)
+    (strided : Strided t)
     {w m a w₂ m₂ a₂ : List ℕ}
     {L : ℕ}
     (g base k : ℕ)
@@ -202,10 +134,11 @@ module _
         (getD-back-after base k m₂ u₂ (omega arith) (z′ .marks2) j h′)
         (getD-back-after base k a₂ v₂ (omega arith) (z′ .aims2) j h′)
 
-    pub part-moved : {r : ℕ} → MovedGroup t Part (cellAt y u v y₂ u₂ v₂) r → MovedPart t base Whole Back r
-    part-moved {r} q = record {
-      made = λ p h. cell-back p h ∙ q .made p h ∙ moved-part t pos g Part Whole in-part p h ∙ ap (λ (n : ℕ). movedOf t Whole (n + p)) (sym b);
+    pub part-ran : {run counts : Lent} → now (run .entry) ≡ now (counts .entry) → now (run .exit) ≡ now (counts .exit) → RanGroup t Part (cellAt y u v y₂ u₂ v₂) run → RanPart t base Whole Back counts
+    part-ran old new q = record {
+      made = λ i h. cell-back i h ∙ q .made i h ∙ ran-part t pos strided g Part Whole in-part i h ∙ ap (λ (n : ℕ). ranOn t Whole (n + i)) (sym b);
       before = cell-before;
       after = cell-after;
-      count = q .count ∙ sum-cong (groups (t .side)) (λ p h. count-part t pos g Part Whole in-part p h ∙ ap (λ (n : ℕ). countOf (goerOf t (n + p) (Whole (n + p)))) (sym b));
+      count = λ d h. ap (λ (k : List ℕ). getD k d 0) (sym new) ∙ q .count d h
+          ∙ ap₂ (λ (k : List ℕ) (n : ℕ). getD k d 0 + n) old (sum-cong (groups (t .side)) (λ i h. ap₂ (wentFrom t d) (sym (spot-shifted t pos strided g i) ∙ ap (λ (n : ℕ). spotOf t (n + i)) (sym b)) (cell-part i h)));
     }

@@ -1,3 +1,3 @@
 pub mod Inside
+pub mod Lines
 pub mod Mesh
-pub mod Moved

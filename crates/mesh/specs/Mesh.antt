@@ -1,37 +1,77 @@
--- One electronic move. A cell's next content is made of its own, less the record that leaves it, and of what the neighbour behind it sends on.
-use Prim.Native.Nat.{ℕ, _/_, _%_}
+-- A run of electronic moves on the whole board: every line of every group makes it.
+use Prim.Native.Nat.{ℕ, _+_, _-_, _*_, _<_, min}
+use mathlib.Core.Path.{_≡_}
 use mathlib.Core.Bool.{Bool, true, false, cond}
-use lib.Dec.{ltb, eqb}
-use Rattle.array.specs.Cells.{groups, place, ahead, onward}
-use Rattle.array.specs.Moves.{opposite}
-use Rattle.travel.specs.Travel.{distance}
-use Rattle.slots.specs.declared.Rec.{Rec}
+use mathlib.Core.List.{List}
+use lib.ListN.{getD}
+use Rattle.laws.specs.Sums.{sum}
+use Rattle.array.specs.declared.moves.Way.{Way}
+use Rattle.array.specs.declared.moves.Way.the-variants.{Right, Left, Up, Down}
+use Rattle.array.specs.Cells.{groups, cells}
 use Rattle.slots.specs.declared.Cell.{Cell}
-use Rattle.mesh.specs.declared.moving.Rule.{Rule}
-use Rattle.slots.specs.Cells.{nothing, joined, firstOf, restOf}
+use Rattle.mesh.specs.declared.lines.Rule.{Rule}
+use Rattle.mesh.specs.declared.Leg.{Leg}
+use Rattle.mesh.specs.Lines.{digitOf, ranLine, goesAt, wentFrom}
 
--- the place that a record heads for: by the last two digits of its aim in base s, or by the first two
-abbrev pub headingOf : Rule → ℕ → ℕ
-headingOf t aim = cond (t .low) (aim % groups (t .side)) (aim / groups (t .side) % groups (t .side))
+-- from one cell of a line to the next: along a row, or down a column
+abbrev pub strideOf : ℕ → Way → ℕ
+strideOf s Right = 1
+strideOf s Left = 1
+strideOf s Up = s
+strideOf s Down = s
 
--- whether a record in cell i goes: its place lies further that way than the rule has it wait
-unfoldable pub goesIn : Rule → ℕ → Rec → Bool
-goesIn t i x = cond (eqb (x .mark) 0) false (ltb (t .wait) (distance (t .side) (t .way) (headingOf t (x .aim)) (place (t .side) i)))
+-- the weight of the digit of an aim that names a cell of a line. A record heads for its aim mod N, whose digits weigh as those of a place, or for its aim div N
+abbrev pub unitOf : ℕ → Bool → ℕ → ℕ
+unitOf s low stride = cond low stride (stride * groups s)
 
--- the record that leaves a cell, and the cell without it
-unfoldable pub goerOf : Rule → ℕ → Cell → Rec
-goerOf t i c = firstOf (goesIn t i (c .front)) (goesIn t i (c .spare)) c
+-- whether a way goes up its line, to greater columns or rows, or down it
+abbrev pub goesUp : Way → Bool
+goesUp Right = true
+goesUp Left = false
+goesUp Up = false
+goesUp Down = true
 
-unfoldable pub stayedOf : Rule → ℕ → Cell → Cell
-stayedOf t i c = restOf (goesIn t i (c .front)) (goesIn t i (c .spare)) c
+abbrev pub goesDown : Way → Bool
+goesDown Right = false
+goesDown Left = true
+goesDown Up = true
+goesDown Down = false
 
--- the cell behind cell i, and what comes into cell i from it, where there is one
-abbrev pub behind : Rule → ℕ → ℕ
-behind t i = onward (t .side) (opposite (t .way)) i
+-- the rule of a leg
+abbrev pub ruleOf : Leg → Rule
+ruleOf l = record {
+  side = l .side;
+  stride = strideOf (l .side) (l .way);
+  unit = unitOf (l .side) (l .low) (strideOf (l .side) (l .way));
+  up = goesUp (l .way);
+  down = goesDown (l .way);
+  late = l .late;
+  times = l .times;
+  made = min (l .made) (l .times);
+}
 
-unfoldable pub arrivalOf : Rule → (ℕ → Cell) → ℕ → Rec
-arrivalOf t T i = cond (ltb 0 (ahead (t .side) (opposite (t .way)) i)) (goerOf t (behind t i) (T (behind t i))) nothing
+-- which cell of its line cell i is, and cell q of the same line
+abbrev pub spotOf : Rule → ℕ → ℕ
+spotOf t i = digitOf (t .side) (t .stride) i
 
--- cell i after the move
-unfoldable pub movedOf : Rule → (ℕ → Cell) → ℕ → Cell
-movedOf t T i = joined (stayedOf t i (T i)) (arrivalOf t T i)
+abbrev pub lineCell : Rule → ℕ → ℕ → ℕ
+lineCell t i q = i - spotOf t i * t .stride + q * t .stride
+
+-- cell i after the moves
+unfoldable pub ranOn : Rule → (ℕ → Cell) → ℕ → Cell
+ranOn t T i = ranLine t (λ q. T (lineCell t i q)) (spotOf t i)
+
+-- how many records go in move j
+abbrev pub goneIn : Rule → ℕ → (ℕ → Cell) → ℕ
+goneIn t j T = sum (cells (t .side)) (λ i. goesAt t j (spotOf t i) (T i .front) + goesAt t j (spotOf t i) (T i .spare))
+
+-- how many records are in another cell that had d cells to go
+abbrev pub wentIn : Rule → ℕ → (ℕ → Cell) → ℕ
+wentIn t d T = sum (cells (t .side)) (λ i. wentFrom t d (spotOf t i) (T i))
+
+-- the lanes of a board after a run, and how many records went that had so far to go; on any others nothing was done
+pub record RanLanes (lanes : Bool) (t : Rule) (T T′ : ℕ → Cell) (r : List ℕ) : Type 0 where
+  pub made : lanes ≡ true → (i : ℕ) → i < cells (t .side) → T′ i ≡ ranOn t T i
+  pub went : lanes ≡ true → (d : ℕ) → d < 8 → getD r d 0 ≡ wentIn t d T
+  pub kept : lanes ≡ false → (i : ℕ) → T′ i ≡ T i
+  pub none : lanes ≡ false → (d : ℕ) → d < 8 → getD r d 0 ≡ 0

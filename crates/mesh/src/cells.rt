@@ -5,22 +5,22 @@ ghost use mathlib.Core.Path.{_≡_};
 ghost use mathlib.Core.Bool.{cond};
 ghost use Prim.Native.Nat.{ℕ, _<_};
 ghost use lib.Dec.{eqb};
-ghost use Rattle.slots.specs.Cells.{Sized, cellAt};
+ghost use Rattle.slots.specs.Lanes.{cellsBefore, cellsAfter, Long};
 
 // What cell i of n holds.
 pub(crate) fn read(
     n: usize,
+    i: usize,
     words: &[u32],
     marks: &[u8],
     aims: &[u16],
     spare_words: &[u32],
     spare_marks: &[u8],
     spare_aims: &[u16],
-    i: usize,
 ) -> Cell
-    requires { ⌜ Sized n (now words) (now marks) (now aims) (now «spare_words») (now «spare_marks») (now «spare_aims») ⌝ }
     requires { ⌜ i < n ⌝ }
-    ensures { λ r. ⌜ r ≡ cellAt (now (words .entry)) (now (marks .entry)) (now (aims .entry)) (now («spare_words» .entry)) (now («spare_marks» .entry)) (now («spare_aims» .entry)) i ⌝ }
+    requires { ⌜ Long n words marks aims «spare_words» «spare_marks» «spare_aims» ⌝ }
+    ensures { λ r. ⌜ r ≡ cellsBefore words marks aims «spare_words» «spare_marks» «spare_aims» i ⌝ }
 {
     let front = Rec {
         word: words[i],
@@ -35,13 +35,11 @@ pub(crate) fn read(
     Cell { front, spare }
 }
 
-// Cell i of n holds c, and then cell j holds d.
+// Cell i of n holds c.
 pub(crate) fn put(
     n: usize,
     i: usize,
     c: Cell,
-    j: usize,
-    d: Cell,
     words: &mut [u32],
     marks: &mut [u8],
     aims: &mut [u16],
@@ -49,9 +47,9 @@ pub(crate) fn put(
     spare_marks: &mut [u8],
     spare_aims: &mut [u16],
 )
-    requires { ⌜ Sized n (now words) (now marks) (now aims) (now «spare_words») (now «spare_marks») (now «spare_aims») ⌝ }
-    requires { ⌜ (i < n) × (j < n) ⌝ }
-    ensures { λ _. ⌜ ((k : ℕ) → cellAt (now (words .exit)) (now (marks .exit)) (now (aims .exit)) (now («spare_words» .exit)) (now («spare_marks» .exit)) (now («spare_aims» .exit)) k ≡ cond (eqb k j) d (cond (eqb k i) c (cellAt (now (words .entry)) (now (marks .entry)) (now (aims .entry)) (now («spare_words» .entry)) (now («spare_marks» .entry)) (now («spare_aims» .entry)) k))) ⌝ }
+    requires { ⌜ i < n ⌝ }
+    requires { ⌜ Long n words marks aims «spare_words» «spare_marks» «spare_aims» ⌝ }
+    ensures { λ _. ⌜ ((k : ℕ) → cellsAfter words marks aims «spare_words» «spare_marks» «spare_aims» k ≡ cond (eqb k i) c (cellsBefore words marks aims «spare_words» «spare_marks» «spare_aims» k)) ⌝ }
 {
     let front = c.front;
     let spare = c.spare;
@@ -61,12 +59,4 @@ pub(crate) fn put(
     spare_words[i] = spare.word;
     spare_marks[i] = spare.mark;
     spare_aims[i] = spare.aim;
-    let front2 = d.front;
-    let spare2 = d.spare;
-    words[j] = front2.word;
-    marks[j] = front2.mark;
-    aims[j] = front2.aim;
-    spare_words[j] = spare2.word;
-    spare_marks[j] = spare2.mark;
-    spare_aims[j] = spare2.aim;
 }

@@ -1,8 +1,8 @@
--- The moves of concentrate's list, or of distribute's, made one after the other on all cells of a board.
-use Prim.Native.Nat.{ℕ, zero, suc, _-_, _<_}
+-- The moves of a list of runs, made one run after the other on all cells of a board, up to a cut.
+use Prim.Native.Nat.{ℕ, zero, suc, _+_, _-_, _<_, min}
 use mathlib.Core.Path.{_≡_}
 use mathlib.Core.Bool.{Bool, true, false, cond}
-use mathlib.Core.List.{List}
+use mathlib.Core.List.{List, [], _∷_, _++_}
 use lib.Dec.{eqb}
 use lib.Seq.{sets}
 use Rattle.laws.specs.Sums.{sum}
@@ -11,54 +11,63 @@ use Rattle.array.specs.declared.moves.Way.{Way}
 use Rattle.array.specs.declared.moves.Move.{Move}
 use Rattle.array.specs.declared.moves.Move.the-variants.{Swap, Electronic}
 use Rattle.array.specs.Cells.{cells, partner}
-use Rattle.lists.specs.Lists.{runsOf}
-use Rattle.travel.specs.declared.turns.Turn.{Turn}
-use Rattle.travel.specs.Turns.{turnAt}
+use Rattle.logs.specs.declared.Run.{Run}
+use Rattle.logs.specs.Runs.{swapsIn}
+use Rattle.lists.specs.declared.Trip.{Trip}
+use Rattle.lists.specs.declared.Trip.the-variants.{Concentrate, Distribute}
 use Rattle.slots.specs.declared.Cell.{Cell}
-use Rattle.mesh.specs.declared.moving.Rule.{Rule}
-use Rattle.slots.specs.Cells.{countOf, marksIn}
-use Rattle.mesh.specs.Mesh.{goerOf, movedOf}
+use Rattle.slots.specs.Cells.{marksIn}
+use Rattle.mesh.specs.declared.Leg.{Leg}
+use Rattle.mesh.specs.Mesh.{ruleOf, ranOn, goneIn}
 
-abbrev pub turnOn : Bool → ℕ → ℕ → Turn
-turnOn back s k = turnAt (runsOf back s) k
+-- a record heads for its aim mod N before concentrate's first swap, and after distribute's last
+abbrev pub lowAfter : Trip → ℕ → Bool
+lowAfter Concentrate swaps = eqb swaps 0
+lowAfter Distribute swaps = eqb swaps 2
 
--- an electronic move. In concentrate a record goes until it is there; in distribute it sets off when it is as far from its place as moves of the run are left
-abbrev pub ruleOf : Bool → ℕ → Way → Turn → Rule
-ruleOf back s w x = record { side = s; way = w; low = eqb (x .swaps) (cond back 2 0); wait = cond back (x .left - 1) 0 }
+-- in distribute records go as late as they can
+abbrev pub isLate : Trip → Bool
+isLate Concentrate = false
+isLate Distribute = true
 
--- cell i after one move
-abbrev pub madeBy : Bool → ℕ → Turn → Move → (ℕ → Cell) → ℕ → Cell
-madeBy back s x Swap T i = T (partner s i)
-madeBy back s x (Electronic w) T i = movedOf (ruleOf back s w x) T i
+-- the first m moves of a run one way, where so many swaps were made before
+abbrev pub legOf : Trip → ℕ → ℕ → Way → ℕ → ℕ → Leg
+legOf trip s swaps w times m = record { side = s; way = w; low = lowAfter trip swaps; late = isLate trip; times = times; made = m }
 
--- how many records are in another cell after it
-abbrev pub goneBy : Bool → ℕ → Turn → Move → (ℕ → Cell) → ℕ
-goneBy back s x Swap T = sum (cells s) (λ i. cond (eqb (partner s i) i) 0 (marksIn (T i)))
-goneBy back s x (Electronic w) T = sum (cells s) (λ i. countOf (goerOf (ruleOf back s w x) i (T i)))
+-- the cells after m swaps: each holds what its partner held
+unfoldable pub swapped : ℕ → ℕ → (ℕ → Cell) → ℕ → Cell
+swapped s zero T i = T i
+swapped s (suc m) T i = swapped s m T (partner s i)
 
--- the same of move k of a list
-abbrev pub madeOn : Bool → ℕ → ℕ → (ℕ → Cell) → ℕ → Cell
-madeOn back s k T i = madeBy back s (turnOn back s k) (turnOn back s k .step) T i
+-- the cells after the first m moves of a run of so many
+abbrev pub ranBy : Trip → ℕ → ℕ → Move → ℕ → ℕ → (ℕ → Cell) → ℕ → Cell
+ranBy trip s swaps Swap times m T = swapped s m T
+ranBy trip s swaps (Electronic w) times m T = ranOn (ruleOf (legOf trip s swaps w times m)) T
 
-abbrev pub goneOn : Bool → ℕ → ℕ → (ℕ → Cell) → ℕ
-goneOn back s k T = goneBy back s (turnOn back s k) (turnOn back s k .step) T
+-- how many records move j of the run takes to another cell
+abbrev pub goneBy : Trip → ℕ → ℕ → Move → ℕ → ℕ → (ℕ → Cell) → ℕ
+goneBy trip s swaps Swap times j T = sum (cells s) (λ i. cond (eqb (partner s i) i) 0 (marksIn (swapped s j T i)))
+goneBy trip s swaps (Electronic w) times j T = goneIn (ruleOf (legOf trip s swaps w times times)) j T
 
--- the cells after the first k moves
-unfoldable pub after : Bool → ℕ → ℕ → (ℕ → Cell) → ℕ → Cell
-after back s zero T i = T i
-after back s (suc k) T i = madeOn back s k (after back s k T) i
+-- how many of a run's moves are made, of k that are left
+abbrev pub madeOf : Run → ℕ → ℕ
+madeOf r k = min (r .times) k
 
--- how many records each of the first n moves takes to another cell
-abbrev pub movedLog : Bool → ℕ → ℕ → (ℕ → Cell) → List ℕ
-movedLog back s n T = entries (λ k. goneOn back s k (after back s k T)) 0 n
+-- the cells after the first k moves of a list, where so many swaps were made before
+unfoldable pub after : Trip → ℕ → List Run → ℕ → ℕ → (ℕ → Cell) → ℕ → Cell
+after trip s [] swaps k T = T
+after trip s (r ∷ rs) swaps k T =
+    after trip s rs (swaps + swapsIn (r .step) (madeOf r k)) (k - madeOf r k) (ranBy trip s swaps (r .step) (r .times) (madeOf r k) T)
 
--- one move was made
-pub record Made (back : Bool) (s : ℕ) (x : Turn) (T T′ : ℕ → Cell) (r : ℕ) : Type 0 where
-  pub made : (i : ℕ) → i < cells s → T′ i ≡ madeBy back s x (x .step) T i
-  pub count : r ≡ goneBy back s x (x .step) T
+-- how many records each of them takes to another cell
+unfoldable pub movedLog : Trip → ℕ → List Run → ℕ → ℕ → (ℕ → Cell) → List ℕ
+movedLog trip s [] swaps k T = []
+movedLog trip s (r ∷ rs) swaps k T =
+    entries (λ j. goneBy trip s swaps (r .step) (r .times) j T) 0 (madeOf r k)
+    ++ movedLog trip s rs (swaps + swapsIn (r .step) (madeOf r k)) (k - madeOf r k) (ranBy trip s swaps (r .step) (r .times) (madeOf r k) T)
 
--- the first n moves were made, where the lanes are those of a board, and nothing was done else
-pub record Ran (lanes back : Bool) (s n : ℕ) (T T′ : ℕ → Cell) (moved moved′ : List ℕ) : Type 0 where
-  pub made : lanes ≡ true → (i : ℕ) → i < cells s → T′ i ≡ after back s n T i
+-- the first n moves of a list were made, where the lanes are those of a board, and nothing was done else
+pub record Ran (lanes : Bool) (trip : Trip) (s : ℕ) (rs : List Run) (n : ℕ) (T T′ : ℕ → Cell) (moved moved′ : List ℕ) : Type 0 where
+  pub made : lanes ≡ true → (i : ℕ) → i < cells s → T′ i ≡ after trip s rs 0 n T i
   pub kept : lanes ≡ false → (i : ℕ) → T′ i ≡ T i
-  pub log : moved′ ≡ cond lanes (sets moved 0 (movedLog back s n T)) moved
+  pub log : moved′ ≡ cond lanes (sets moved 0 (movedLog trip s rs 0 n T)) moved

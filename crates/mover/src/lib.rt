@@ -1,3 +1,1 @@
-// The mover: the swap of all lanes, and the moves of concentrate's list or of distribute's, made one after the other up to a cut.
-pub mod runs;
-pub mod swaps;
+// The moves of a list.

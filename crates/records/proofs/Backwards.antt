@@ -2,12 +2,12 @@
 -- the cells that the aims name, has with k moves to go. And concentrate, then distribute with the old cells as aims, gives every marked cell its word back.
 use Prim.Native.Nat.{ℕ, _-_, _<_}
 use mathlib.Core.Path.{_≡_, sym, ap, _∙_}
-use mathlib.Core.Bool.{true, false}
 use mathlib.Core.Logic.{_⊎_, inl, inr, ⊎-elim}
 use mathlib.Core.List.{List}
 use native.Mathlib.Omega.{arith}
 use lib.ListN.{length, getD}
 use Rattle.array.specs.Cells.{cells}
+use Rattle.lists.specs.declared.Trip.the-variants.{Concentrate, Distribute}
 use Rattle.travel.specs.Travel.{stands}
 use Rattle.slots.specs.declared.Rec.{Rec}
 use Rattle.slots.specs.declared.Cell.{Cell}
@@ -47,7 +47,7 @@ alike {Q = Q} u (hold2 i j e l p q n) (hold2 i′ j′ e′ l′ p′ q′ n′)
 
 -- concentrate of marks and aims, and distribute of as many records whose aims name the marked cells
 module _ {s : ℕ} (pos : 0 < s) {marks aims marks₂ aims₂ : List ℕ} (long : length marks ≡ cells s) (long₂ : length marks₂ ≡ cells s)
-    (good : Good false s marks aims) (good₂ : Good true s marks₂ aims₂) (as-many : countIn s marks₂ ≡ countIn s marks)
+    (good : Good Concentrate s marks aims) (good₂ : Good Distribute s marks₂ aims₂) (as-many : countIn s marks₂ ≡ countIn s marks)
     (back : (r : ℕ) → r < countIn s marks → getD aims₂ r 0 ≡ markedCell marks (cells s) r) (words words₂ : List ℕ) where
   ranked : Ranked s marks aims
   ranked = good-ranked s marks aims long good
@@ -55,32 +55,32 @@ module _ {s : ℕ} (pos : 0 < s) {marks aims marks₂ aims₂ : List ℕ} (long 
   aimed : Aimed s (countIn s marks₂) marks₂ aims₂
   aimed = good-aimed s marks₂ aims₂ long₂ good₂
 
-  pub state-by-state : (k : ℕ) {T U : ℕ → Cell} → Stood true s k words₂ marks₂ aims₂ T → Stood false s (totalMoves s - k) words marks aims U
-      → (j : ℕ) → j < cells s → (f : Slot) → Alike (countIn s marks) (recordOf true s words₂ marks₂ aims₂) (recordOf false s words marks aims) (slot f (T j)) (slot f (U j))
+  pub state-by-state : (k : ℕ) {T U : ℕ → Cell} → Stood Distribute s k words₂ marks₂ aims₂ T → Stood Concentrate s (totalMoves s - k) words marks aims U
+      → (j : ℕ) → j < cells s → (f : Slot) → Alike (countIn s marks) (recordOf Distribute s words₂ marks₂ aims₂) (recordOf Concentrate s words marks aims) (slot f (T j)) (slot f (U j))
   state-by-state k {T} {U} o o′ j u = alike (λ r p. p .0) (same-holds to from theirs) ours
     where
-      theirs : Holds (recordOf true s words₂ marks₂ aims₂) (At (countIn s marks₂) (cellOf true s marks₂ aims₂ k) j) (T j)
+      theirs : Holds (recordOf Distribute s words₂ marks₂ aims₂) (At (countIn s marks₂) (cellOf Distribute s marks₂ aims₂ k) j) (T j)
       theirs =
           holds (first-rising s words₂ marks₂ aims₂ aimed) (fits s (countIn s marks₂) pos (λ r. getD aims₂ r 0) (aimed .rising) (aimed .below) (totalMoves s - k))
           (below s (countIn s marks₂) pos (λ r. getD aims₂ r 0) (aimed .rising) (aimed .below) (totalMoves s - k)) o j u
 
-      ours : Holds (recordOf false s words marks aims) (At (countIn s marks) (cellOf false s marks aims (totalMoves s - k)) j) (U j)
+      ours : Holds (recordOf Concentrate s words marks aims) (At (countIn s marks) (cellOf Concentrate s marks aims (totalMoves s - k)) j) (U j)
       ours =
           holds (start-rising s words marks aims ranked)
           (fits s (countIn s marks) pos (markedCell marks (cells s)) (start-rises s words marks aims ranked) (start-inside s words marks aims ranked) (totalMoves s - k))
           (below s (countIn s marks) pos (markedCell marks (cells s)) (start-rises s words marks aims ranked) (start-inside s words marks aims ranked) (totalMoves s - k)) o′ j u
 
-      same : (r : ℕ) → r < countIn s marks → cellOf true s marks₂ aims₂ k r ≡ cellOf false s marks aims (totalMoves s - k) r
+      same : (r : ℕ) → r < countIn s marks → cellOf Distribute s marks₂ aims₂ k r ≡ cellOf Concentrate s marks aims (totalMoves s - k) r
       same r h = ap (stands s (totalMoves s - k) r) (back r h)
 
-      to : (r : ℕ) → At (countIn s marks₂) (cellOf true s marks₂ aims₂ k) j r → At (countIn s marks) (cellOf false s marks aims (totalMoves s - k)) j r
+      to : (r : ℕ) → At (countIn s marks₂) (cellOf Distribute s marks₂ aims₂ k) j r → At (countIn s marks) (cellOf Concentrate s marks aims (totalMoves s - k)) j r
       to r p = let h : r < countIn s marks = omega (arith, p .0, as-many) in (h, sym (same r h) ∙ p .1)
 
-      from : (r : ℕ) → At (countIn s marks) (cellOf false s marks aims (totalMoves s - k)) j r → At (countIn s marks₂) (cellOf true s marks₂ aims₂ k) j r
+      from : (r : ℕ) → At (countIn s marks) (cellOf Concentrate s marks aims (totalMoves s - k)) j r → At (countIn s marks₂) (cellOf Distribute s marks₂ aims₂ k) j r
       from r p = (omega (arith, p .0, as-many), same r (p .0) ∙ p .1)
 
   -- there and back: the words that concentrate left in front, distributed to the cells that were marked
-  module _ {T U : ℕ → Cell} (there : Stood false s (totalMoves s) words marks aims T) (again : Stood true s (totalMoves s) words₂ marks₂ aims₂ U)
+  module _ {T U : ℕ → Cell} (there : Stood Concentrate s (totalMoves s) words marks aims T) (again : Stood Distribute s (totalMoves s) words₂ marks₂ aims₂ U)
       (same-words : (r : ℕ) → r < countIn s marks → getD words₂ r 0 ≡ T r .front .word) where
     pub word-back : (i : ℕ) → i < cells s → getD marks i 0 ≡ 1 → U i ≡ alone (record { word = getD words i 0; mark = 1; aim = i })
     word-back i h e =

@@ -1,11 +1,10 @@
 -- The records of concentrate, for every side and every choice of marks, as they are in the lanes. After each single move the records present are exactly those
 -- that were marked at the start, each once with its word and rank, each in the cell that the move rule gives; no cell holds more than two; at the end the record of
 -- rank r stands by itself in cell r; and the list has exactly 7(s − 1) electronic moves and two by light.
--- A cell's slots are its front lanes and its spare lanes. What concentrate promises of its lanes after n moves is `Stood false s n` (specs/Entries.antt), so each
+-- A cell's slots are its front lanes and its spare lanes. What concentrate promises of its lanes after n moves is `Stood Concentrate s n` (specs/Entries.antt), so each
 -- theorem here begins from that promise, and from marks and aims that were not refused, `Good` (what that is for concentrate says `Ranked`).
 use Prim.Native.Nat.{ℕ, _-_, _*_, _≤_, _<_}
 use mathlib.Core.Path.{_≡_, refl, sym, ap, _∙_}
-use mathlib.Core.Bool.{true, false}
 use mathlib.Core.Logic.{_⊎_, inl, inr, ⊎-elim}
 use mathlib.Core.List.{List}
 use native.Mathlib.Nat.{sub-self}
@@ -18,6 +17,7 @@ use Rattle.answers.specs.Answers.{acceptedBy}
 use Rattle.array.proofs.Board.{side-known}
 use Rattle.array.specs.Cells.{cells, group}
 use Rattle.logs.specs.Runs.{moves, electronic, swaps}
+use Rattle.lists.specs.declared.Trip.the-variants.{Concentrate, Distribute}
 use Rattle.lists.specs.Lists.{concentrateRuns, runsOf}
 use Rattle.lists.proofs.Counts.{concentrate-electronic, concentrate-swaps, concentrate-length}
 use Rattle.travel.specs.Travel.{toward, heading}
@@ -151,7 +151,7 @@ module _ {s b : ℕ} {R : ℕ → Rec} {pos : ℕ → ℕ} {T : ℕ → Cell} (z
   none-at j u n = o .cells j u ∙ holds-one (content-holds z pos apart-fits j) (hold0 refl (λ k q. n k (q .0) (q .1)))
 
 -- the records of concentrate
-module _ {s : ℕ} (pos : 0 < s) {marks aims : List ℕ} (long : length marks ≡ cells s) (good : Good false s marks aims) (words : List ℕ) where
+module _ {s : ℕ} (pos : 0 < s) {marks aims : List ℕ} (long : length marks ≡ cells s) (good : Good Concentrate s marks aims) (words : List ℕ) where
   ranked : Ranked s marks aims
   ranked = good-ranked s marks aims long good
 
@@ -162,27 +162,27 @@ module _ {s : ℕ} (pos : 0 < s) {marks aims : List ℕ} (long : length marks �
   pub records-all : (i : ℕ) → i < cells s → getD marks i 0 ≡ 1 → (rankIn marks i < countIn s marks) × (markedCell marks (cells s) (rankIn marks i) ≡ i)
   records-all i h e = (rank-past marks i (cells s) h e, cell-of marks (cells s) i h e)
 
-  pub records-ranked : (r : ℕ) → r < countIn s marks → recordOf false s words marks aims r .aim ≡ r
+  pub records-ranked : (r : ℕ) → r < countIn s marks → recordOf Concentrate s words marks aims r .aim ≡ r
   records-ranked = start-aims s words marks aims ranked
 
   -- after n moves: exactly these records, each once, each where the move rule takes it, in range, two in a cell at most
-  pub present-after : (n : ℕ) {T : ℕ → Cell} → Stood false s n words marks aims T → Present s (countIn s marks) (recordOf false s words marks aims) (cellOf false s marks aims n) T
+  pub present-after : (n : ℕ) {T : ℕ → Cell} → Stood Concentrate s n words marks aims T → Present s (countIn s marks) (recordOf Concentrate s words marks aims) (cellOf Concentrate s marks aims n) T
   present-after n o =
       present (start-rising s words marks aims ranked) (fits s (countIn s marks) pos (markedCell marks (cells s)) (start-rises s words marks aims ranked) (start-inside s words marks aims ranked) n)
       (below s (countIn s marks) pos (markedCell marks (cells s)) (start-rises s words marks aims ranked) (start-inside s words marks aims ranked) n) o
 
   -- never three in a cell
-  pub two-at-most : (n i j k : ℕ) → i < j → j < k → k < countIn s marks → cellOf false s marks aims n i ≡ cellOf false s marks aims n j → cellOf false s marks aims n j ≡ cellOf false s marks aims n k → ⊥
+  pub two-at-most : (n i j k : ℕ) → i < j → j < k → k < countIn s marks → cellOf Concentrate s marks aims n i ≡ cellOf Concentrate s marks aims n j → cellOf Concentrate s marks aims n j ≡ cellOf Concentrate s marks aims n k → ⊥
   two-at-most n = fits s (countIn s marks) pos (markedCell marks (cells s)) (start-rises s words marks aims ranked) (start-inside s words marks aims ranked) n
 
   -- at the end the record of rank r stands by itself in cell r, and all else is empty
-  ended : {T : ℕ → Cell} → Stood false s (totalMoves s) words marks aims T → Shows s (countIn s marks) (recordOf false s words marks aims) (λ r. r) T
+  ended : {T : ℕ → Cell} → Stood Concentrate s (totalMoves s) words marks aims T → Shows s (countIn s marks) (recordOf Concentrate s words marks aims) (λ r. r) T
   ended o = shows-same (λ r h. at-the-end s (countIn s marks) pos (markedCell marks (cells s)) (start-rises s words marks aims ranked) (start-inside s words marks aims ranked) r h) o
 
-  pub end-alone : {T : ℕ → Cell} → Stood false s (totalMoves s) words marks aims T → (r : ℕ) → r < countIn s marks → r < cells s → T r ≡ alone (recordOf false s words marks aims r)
+  pub end-alone : {T : ℕ → Cell} → Stood Concentrate s (totalMoves s) words marks aims T → (r : ℕ) → r < countIn s marks → r < cells s → T r ≡ alone (recordOf Concentrate s words marks aims r)
   end-alone o r h u = alone-at (start-rising s words marks aims ranked) (λ i j l _. l) (ended o) r h u
 
-  pub end-empty : {T : ℕ → Cell} → Stood false s (totalMoves s) words marks aims T → (j : ℕ) → j < cells s → countIn s marks ≤ j → T j ≡ empty
+  pub end-empty : {T : ℕ → Cell} → Stood Concentrate s (totalMoves s) words marks aims T → (j : ℕ) → j < cells s → countIn s marks ≤ j → T j ≡ empty
   end-empty o j u l = none-at (start-rising s words marks aims ranked) (λ i j l _. l) (ended o) j u (λ r h e. omega arith)
 
 -- an electronic move leaves a record in its group
@@ -200,38 +200,38 @@ pub list-length : (s : ℕ) → length (moves (concentrateRuns s)) ≡ totalMove
 list-length = concentrate-length
 
 -- the records of distribute, which goes the same ways back
-module _ {s : ℕ} (pos : 0 < s) {marks aims : List ℕ} (long : length marks ≡ cells s) (good : Good true s marks aims) (words : List ℕ) where
+module _ {s : ℕ} (pos : 0 < s) {marks aims : List ℕ} (long : length marks ≡ cells s) (good : Good Distribute s marks aims) (words : List ℕ) where
   aimed : Aimed s (countIn s marks) marks aims
   aimed = good-aimed s marks aims long good
 
-  pub distribute-present : (n : ℕ) {T : ℕ → Cell} → Stood true s n words marks aims T → Present s (countIn s marks) (recordOf true s words marks aims) (cellOf true s marks aims n) T
+  pub distribute-present : (n : ℕ) {T : ℕ → Cell} → Stood Distribute s n words marks aims T → Present s (countIn s marks) (recordOf Distribute s words marks aims) (cellOf Distribute s marks aims n) T
   distribute-present n o =
       present (first-rising s words marks aims aimed) (fits s (countIn s marks) pos (λ r. getD aims r 0) (aimed .rising) (aimed .below) (totalMoves s - n))
       (below s (countIn s marks) pos (λ r. getD aims r 0) (aimed .rising) (aimed .below) (totalMoves s - n)) o
 
-  arrived : {T : ℕ → Cell} → Stood true s (totalMoves s) words marks aims T → Shows s (countIn s marks) (recordOf true s words marks aims) (λ r. getD aims r 0) T
+  arrived : {T : ℕ → Cell} → Stood Distribute s (totalMoves s) words marks aims T → Shows s (countIn s marks) (recordOf Distribute s words marks aims) (λ r. getD aims r 0) T
   arrived o = shows-same (λ r h. rw (sub-self (totalMoves s))) o
 
   -- at the end each is alone in the cell that its aim names, and every cell that no aim names is empty
-  pub distribute-alone : {T : ℕ → Cell} → Stood true s (totalMoves s) words marks aims T → (r : ℕ) → r < countIn s marks → T (getD aims r 0) ≡ alone (recordOf true s words marks aims r)
+  pub distribute-alone : {T : ℕ → Cell} → Stood Distribute s (totalMoves s) words marks aims T → (r : ℕ) → r < countIn s marks → T (getD aims r 0) ≡ alone (recordOf Distribute s words marks aims r)
   distribute-alone o r h = alone-at (first-rising s words marks aims aimed) (aims-rise s words marks aims aimed) (arrived o) r h (aimed .below r h)
 
-  pub distribute-empty : {T : ℕ → Cell} → Stood true s (totalMoves s) words marks aims T → (j : ℕ) → j < cells s → ((r : ℕ) → r < countIn s marks → getD aims r 0 ≡ j → ⊥) → T j ≡ empty
+  pub distribute-empty : {T : ℕ → Cell} → Stood Distribute s (totalMoves s) words marks aims T → (j : ℕ) → j < cells s → ((r : ℕ) → r < countIn s marks → getD aims r 0 ≡ j → ⊥) → T j ≡ empty
   distribute-empty o j u n = none-at (first-rising s words marks aims aimed) (aims-rise s words marks aims aimed) (arrived o) j u n
 
 -- the same of what the entries promise: of the lanes of an accepted run, whole or up to a cut
 module _ {s : ℕ} {w m a w₂ m₂ a₂ w′ m′ a′ w₂′ m₂′ a₂′ : List ℕ} {r : Answer} where
-  pub cut-records : {cut : ℕ} → CutRun false s cut w m a w₂ m₂ a₂ w′ m′ a′ w₂′ m₂′ a₂′ r → r .number ≡ 0
-      → Present s (countIn s m) (recordOf false s w m a) (cellOf false s m a cut) (cellAt w′ m′ a′ w₂′ m₂′ a₂′)
+  pub cut-records : {cut : ℕ} → CutRun Concentrate s cut w m a w₂ m₂ a₂ w′ m′ a′ w₂′ m₂′ a₂′ r → r .number ≡ 0
+      → Present s (countIn s m) (recordOf Concentrate s w m a) (cellOf Concentrate s m a cut) (cellAt w′ m′ a′ w₂′ m₂′ a₂′)
   cut-records {cut} z h =
-      let k = cut-known false s cut (length w) (length m) (length a) (length w₂) (length m₂) (length a₂) m a (acceptedBy (firstRuns cut (runsOf false s))) (z .answer) h in
+      let k = cut-known Concentrate s cut (length w) (length m) (length a) (length w₂) (length m₂) (length a₂) m a (acceptedBy (firstRuns cut (runsOf Concentrate s))) (z .answer) h in
       present-after (side-known s (k .fits .side) .least) (k .fits .marks) (k .good) w cut (z .accepted h)
 
-  module _ {codes codes′ moved moved′ : List ℕ} (z : FullRun false s w m a w₂ m₂ a₂ w′ m′ a′ w₂′ m₂′ a₂′ codes codes′ moved moved′ r) (h : r .number ≡ 0) where
-    known : FullKnown false s (length w) (length m) (length a) (length w₂) (length m₂) (length a₂) m a
-    known = full-known false s (length w) (length m) (length a) (length w₂) (length m₂) (length a₂) (length codes) (length moved) m a (acceptedBy (runsOf false s)) (z .answer) h
+  module _ {codes codes′ moved moved′ : List ℕ} (z : FullRun Concentrate s w m a w₂ m₂ a₂ w′ m′ a′ w₂′ m₂′ a₂′ codes codes′ moved moved′ r) (h : r .number ≡ 0) where
+    known : FullKnown Concentrate s (length w) (length m) (length a) (length w₂) (length m₂) (length a₂) m a
+    known = full-known Concentrate s (length w) (length m) (length a) (length w₂) (length m₂) (length a₂) (length codes) (length moved) m a (acceptedBy (runsOf Concentrate s)) (z .answer) h
 
-    pub full-alone : (k : ℕ) → k < countIn s m → k < cells s → cellAt w′ m′ a′ w₂′ m₂′ a₂′ k ≡ alone (recordOf false s w m a k)
+    pub full-alone : (k : ℕ) → k < countIn s m → k < cells s → cellAt w′ m′ a′ w₂′ m₂′ a₂′ k ≡ alone (recordOf Concentrate s w m a k)
     full-alone = end-alone (side-known s (known .fits .side) .least) (known .fits .marks) (known .good) w (z .accepted h .stood)
 
     pub full-empty : (j : ℕ) → j < cells s → countIn s m ≤ j → cellAt w′ m′ a′ w₂′ m₂′ a₂′ j ≡ empty

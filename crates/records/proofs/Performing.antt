@@ -1,7 +1,7 @@
 -- The moves up to a cut, from lanes that were found good.
 use Prim.Native.Nat.{ℕ, suc, _-_, _≤_, _<_}
 use mathlib.Core.Path.{_≡_, refl, sym, ap, _∙_}
-use mathlib.Core.Bool.{Bool, true, false, cond}
+use mathlib.Core.Bool.{Bool, true, cond}
 use mathlib.Core.Logic.{⊎-elim}
 use mathlib.Core.List.{List}
 use native.Mathlib.Nat.{sub-zero}
@@ -11,26 +11,29 @@ use lib.ListN.{length, getD}
 use lib.Seq.{sets}
 use Rattle.laws.specs.Tables.{entries}
 use Rattle.laws.proofs.Deciding.{same?}
-use Rattle.laws.proofs.Tables.{length-entries, entry-at, entries-all}
+use Rattle.laws.proofs.Tables.{length-entries, entry-at}
 use Rattle.array.specs.Cells.{isSide, cells}
 use Rattle.array.proofs.Board.{side-known}
-use Rattle.travel.specs.Travel.{stands}
+use Rattle.logs.specs.declared.Run.{Run}
+use Rattle.lists.specs.declared.Trip.{Trip}
+use Rattle.lists.specs.declared.Trip.the-variants.{Concentrate, Distribute}
+use Rattle.lists.specs.Lists.{runsOf}
+use Rattle.travel.proofs.Listed.{timesOf}
 use Rattle.travel.proofs.Collide.{at-the-end}
 use Rattle.slots.specs.declared.Rec.{Rec}
 use Rattle.slots.specs.declared.Cell.{Cell}
 use Rattle.slots.specs.Cells.{cellAt, Sized, areLanes, recordIn, alone, empty}
+use Rattle.slots.proofs.Boards.{lanes-are}
 use Rattle.slots.proofs.Stored.{cell-ext}
-use Rattle.mover.specs.Runs.{turnOn, goneOn, after, movedLog, Ran}
-use Rattle.mover.proofs.Running.{lanes-are}
+use Rattle.mover.specs.Runs.{Ran}
 use Rattle.course.specs.Showing.{Shows, changed}
-use Rattle.course.proofs.Course.{Step, Course, course-shows, course-counts, shows-same}
-use Rattle.course.proofs.Standing.{concentrate-step, distribute-step}
+use Rattle.course.proofs.Course.{Course, course-shows, course-counts, shows-same}
+use Rattle.course.proofs.Standing.{all-moves, concentrate-course, distribute-course}
 use Rattle.clearing.specs.Cleared.{keptAt, kept, zeros}
-use Rattle.marks.specs.Marks.{rankIn}
 use Rattle.refusals.specs.Cases.{marked, totalMoves, Good}
 use Rattle.records.specs.Records.{markedCell, countIn, recordOf, cellOf}
 use Rattle.records.specs.Entries.{Performed}
-use Rattle.refusals.proofs.Aims.{Aimed, good-ranked, good-aimed}
+use Rattle.refusals.proofs.Aims.{good-ranked, good-aimed}
 use Rattle.refusals.proofs.Verdicting.{Fitting}
 use Rattle.records.proofs.Marked.{Cleared, start-rises, start-inside, start-aims, start-rising, start-shows, first-rising, first-shows}
 
@@ -72,55 +75,39 @@ cleared-by s {w} {m} {a} {w₂} {m₂} {a₂} {w′} {a′} {w₂′} {m₂′} 
         (zero-at a₂ a₂′ (z .aims2) o₂ j u))
 
 -- a course of records that the mover takes
-module _ {back : Bool} {s n b : ℕ} {R : ℕ → Rec} {pos : ℕ → ℕ → ℕ} {C T′ : ℕ → Cell} {lanes : Bool} {moved moved′ : List ℕ} (some : 0 < s) (l : lanes ≡ true)
-    (c : Course back s n b R pos) (o : Shows s b R (pos 0) C) (z : Ran lanes back s n C T′ moved moved′) where
-  pub ran-shows : Shows s b R (pos n) T′
-  ran-shows = record { cells = λ j u. z .made l j u ∙ course-shows some c o n (omega arith) .cells j u }
+module _ {trip : Trip} {s n b : ℕ} {R : ℕ → Rec} {pos : ℕ → ℕ → ℕ} {C T′ : ℕ → Cell} {lanes : Bool} {moved moved′ : List ℕ} (some : 0 < s) (l : lanes ≡ true) (h : n ≤ totalMoves s)
+    (c : Course trip s (runsOf trip s) 0 n b R pos) (o : Shows s b R (pos 0) C) (z : Ran lanes trip s (runsOf trip s) n C T′ moved moved′) where
+  long : n ≤ timesOf (runsOf trip s)
+  long = rw (all-moves trip s) h
 
-  pub ran-log : moved′ ≡ sets moved 0 (entries (λ k. changed b (pos k) (pos (suc k))) 0 n)
-  ran-log = z .log ∙ rw l (ap (sets moved 0) (entries-all (λ k. changed b (pos k) (pos (suc k))) n 0 (movedLog back s n C) (length-entries (λ k. goneOn back s k (after back s k C)) 0 n)
-      (λ k h. entry-at (λ k. goneOn back s k (after back s k C)) n k 0 h ∙ course-counts some c o k h)))
+  ran-shows : Shows s b R (pos n) T′
+  ran-shows = record { cells = λ j u. z .made l j u ∙ course-shows some c long o .cells j u }
+
+  ran-log : moved′ ≡ sets moved 0 (entries (λ k. changed b (pos k) (pos (suc k))) 0 n)
+  ran-log = z .log ∙ rw l (ap (sets moved 0) (course-counts some c long o))
 
 module _ {s n : ℕ} {words marks aims : List ℕ} {C T′ : ℕ → Cell} {lanes : Bool} {moved moved′ : List ℕ} (some : 0 < s) (l : lanes ≡ true) (long : length marks ≡ cells s) (h : n ≤ totalMoves s)
     (w : Cleared s words marks aims C) where
-  concentrated : Good false s marks aims → Ran lanes false s n C T′ moved moved′ → Performed false s n words marks aims T′ moved moved′
-  concentrated g z =
+  pub performed-by : (trip : Trip) → Good trip s marks aims → Ran lanes trip s (runsOf trip s) n C T′ moved moved′ → Performed trip s n words marks aims T′ moved moved′
+  performed-by Concentrate g z =
       let r = good-ranked s marks aims long g in
-      let c : Course false s n (countIn s marks) (recordOf false s words marks aims) (cellOf false s marks aims) = λ k u.
-      concentrate-step s (rankIn marks (cells s)) some (markedCell marks (cells s)) (start-rises s words marks aims r) (start-inside s words marks aims r) k _
-      (start-rising s words marks aims r) (omega arith) (start-aims s words marks aims r) in
-      record { stood = ran-shows some l c (start-shows s words marks aims r w) z; counted = ran-log some l c (start-shows s words marks aims r w) z }
-
-  distributed : Good true s marks aims → Ran lanes true s n C T′ moved moved′ → Performed true s n words marks aims T′ moved moved′
-  distributed g z = record { stood = ran-shows some l course begun z; counted = ran-log some l course begun z }
-    where
-      r : Aimed s (rankIn marks (cells s)) marks aims
-      r = good-aimed s marks aims long g
-
-      begun : Shows s (countIn s marks) (recordOf true s words marks aims) (cellOf true s marks aims 0) C
-      begun = shows-same (λ k u. sym (at-the-end s (rankIn marks (cells s)) some (λ k. getD aims k 0) (r .rising) (r .below) k u) ∙ rw sub-zero) (first-shows s words marks aims r w)
-
-      back : (k : ℕ) → k < n → Step true s (turnOn true s k) (rankIn marks (cells s)) (recordIn words marks aims) (λ r. stands s (totalMoves s - k) r (getD aims r 0)) (λ r. stands s (totalMoves s - suc k) r (getD aims r 0))
-      back k u =
-          let e : totalMoves s - k ≡ suc (totalMoves s - suc k) = omega arith in
-          rw e
-          (distribute-step s (rankIn marks (cells s)) some (λ k. getD aims k 0) (r .rising) (r .below) (totalMoves s - suc k) (recordIn words marks aims)
-          (first-rising s words marks aims r) k (omega arith) (λ r v. refl))
-
-      course : Course true s n (countIn s marks) (recordOf true s words marks aims) (cellOf true s marks aims)
-      course k u = back k u
-
-  pub performed-by : (back : Bool) → Good back s marks aims → Ran lanes back s n C T′ moved moved′ → Performed back s n words marks aims T′ moved moved′
-  performed-by false g z = concentrated g z
-  performed-by true g z = distributed g z
+      let c = concentrate-course s (countIn s marks) some (markedCell marks (cells s)) (start-rises s words marks aims r) (start-inside s words marks aims r) (recordOf Concentrate s words marks aims) n h
+      (start-rising s words marks aims r) (start-aims s words marks aims r) in
+      record { stood = ran-shows some l h c (start-shows s words marks aims r w) z; counted = ran-log some l h c (start-shows s words marks aims r w) z }
+  performed-by Distribute g z =
+      let r = good-aimed s marks aims long g in
+      let c = distribute-course s (countIn s marks) some (λ k. getD aims k 0) (r .rising) (r .below) (recordOf Distribute s words marks aims) n h (first-rising s words marks aims r) (λ k v. refl) in
+      let begun : Shows s (countIn s marks) (recordOf Distribute s words marks aims) (cellOf Distribute s marks aims 0) C =
+      shows-same (λ k u. sym (at-the-end s (countIn s marks) some (λ k. getD aims k 0) (r .rising) (r .below) k u) ∙ rw sub-zero) (first-shows s words marks aims r w) in
+      record { stood = ran-shows some l h c begun z; counted = ran-log some l h c begun z }
 
 -- the same as the code makes it: five lanes are cleared, and the mover runs
-pub performing : (back : Bool) (s n : ℕ) {w m a w₂ m₂ a₂ w′ a′ w₂′ m₂′ a₂′ moved moved′ : List ℕ} {T′ : ℕ → Cell} → isSide s ≡ true → Sized (cells s) w m a w₂ m₂ a₂ → n ≤ totalMoves s → Good back s m a
+pub performing : (trip : Trip) (s n : ℕ) {rs : List Run} {w m a w₂ m₂ a₂ w′ a′ w₂′ m₂′ a₂′ moved moved′ : List ℕ} {T′ : ℕ → Cell} → isSide s ≡ true → Sized (cells s) w m a w₂ m₂ a₂ → n ≤ totalMoves s → Good trip s m a
     → w′ ≡ kept m w → a′ ≡ kept m a → w₂′ ≡ zeros w₂ → m₂′ ≡ zeros m₂ → a₂′ ≡ zeros a₂
-    → Ran (areLanes s (length w′) (length m) (length a′) (length w₂′) (length m₂′) (length a₂′)) back s n (cellAt w′ m a′ w₂′ m₂′ a₂′) T′ moved moved′
-    → Performed back s n w m a T′ moved moved′
-performing back s n {w} {m} {a} {w₂} {m₂} {a₂} {w′} {a′} {w₂′} {m₂′} {a₂′} side z h g p q p₂ q₂ o₂ r =
-    performed-by (side-known s side .least) (lanes-are s {w = w′} {m = m} {a = a′} {w₂ = w₂′} {m₂ = m₂′} {a₂ = a₂′} side sized) (z .marks) h (cleared-by s z (g .marks-good) p q p₂ q₂ o₂) back g r
+    → rs ≡ runsOf trip s → Ran (areLanes s (length w′) (length m) (length a′) (length w₂′) (length m₂′) (length a₂′)) trip s rs n (cellAt w′ m a′ w₂′ m₂′ a₂′) T′ moved moved′
+    → Performed trip s n w m a T′ moved moved′
+performing trip s n {rs} {w} {m} {a} {w₂} {m₂} {a₂} {w′} {a′} {w₂′} {m₂′} {a₂′} side z h g p q p₂ q₂ o₂ f r =
+    performed-by (side-known s side .least) (lanes-are s {w = w′} {m = m} {a = a′} {w₂ = w₂′} {m₂ = m₂′} {a₂ = a₂′} side sized) (z .marks) h (cleared-by s z (g .marks-good) p q p₂ q₂ o₂) trip g (rw f at r)
   where
     long : (f : ℕ → ℕ) (l l′ : List ℕ) → length l ≡ cells s → l′ ≡ entries f 0 (length l) → length l′ ≡ cells s
     long f l l′ n e = ap length e ∙ length-entries f 0 (length l) ∙ n

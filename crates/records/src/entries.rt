@@ -5,22 +5,24 @@ use clearing::keep_words;
 use clearing::zero_aims;
 use clearing::zero_marks;
 use clearing::zero_words;
+use lists::Trip;
 use lists::runs_of;
 use logs::write_codes;
-use mover::runs::run;
+use mover::run;
 use refusals::judge_cut;
 use refusals::judge_full;
 ghost use mathlib.Core.Path.{_≡_};
-ghost use mathlib.Core.Bool.{true, false};
+ghost use mathlib.Core.Bool.{true};
 ghost use Prim.Native.Nat.{_≤_};
 ghost use Rattle.array.specs.Cells.{isSide, cells};
+ghost use Rattle.lists.specs.declared.Trip.the-variants.{Concentrate, Distribute};
 ghost use Rattle.slots.specs.Cells.{Sized, cellAt};
 ghost use Rattle.refusals.specs.Cases.{totalMoves, Good};
 ghost use Rattle.records.specs.Entries.{Performed, FullRun, CutRun};
 
 // Clears unmarked cells and spare lanes, and makes the first moves of the list, up to the cut.
 fn perform(
-    back: bool,
+    trip: Trip,
     side: usize,
     cut: usize,
     words: &mut [u32],
@@ -34,8 +36,8 @@ fn perform(
     requires { ⌜ isSide side ≡ true ⌝ }
     requires { ⌜ Sized (cells side) (now words) (now marks) (now aims) (now «spare_words») (now «spare_marks») (now «spare_aims») ⌝ }
     requires { ⌜ cut ≤ totalMoves side ⌝ }
-    requires { ⌜ Good back side (now marks) (now aims) ⌝ }
-    ensures { λ _. ⌜ Performed back side cut (now (words .entry)) (now (marks .entry)) (now (aims .entry)) (cellAt (now (words .exit)) (now (marks .exit)) (now (aims .exit)) (now («spare_words» .exit)) (now («spare_marks» .exit)) (now («spare_aims» .exit))) (now (moved .entry)) (now (moved .exit)) ⌝ }
+    requires { ⌜ Good trip side (now marks) (now aims) ⌝ }
+    ensures { λ _. ⌜ Performed trip side cut (now (words .entry)) (now (marks .entry)) (now (aims .entry)) (cellAt (now (words .exit)) (now (marks .exit)) (now (aims .exit)) (now («spare_words» .exit)) (now («spare_marks» .exit)) (now («spare_aims» .exit))) (now (moved .entry)) (now (moved .exit)) ⌝ }
 {
     keep_words(marks, words);
     keep_aims(marks, aims);
@@ -43,8 +45,9 @@ fn perform(
     zero_marks(spare_marks);
     zero_aims(spare_aims);
     run(
-        back,
+        trip,
         side,
+        runs_of(trip, side),
         cut,
         words,
         marks,
@@ -58,7 +61,7 @@ fn perform(
 
 // A full run of either list.
 fn full(
-    back: bool,
+    trip: Trip,
     side: usize,
     words: &mut [u32],
     marks: &mut [u8],
@@ -69,10 +72,10 @@ fn full(
     codes: &mut [u8],
     moved: &mut [u16],
 ) -> Answer
-    ensures { λ r. ⌜ FullRun back side (now (words .entry)) (now (marks .entry)) (now (aims .entry)) (now («spare_words» .entry)) (now («spare_marks» .entry)) (now («spare_aims» .entry)) (now (words .exit)) (now (marks .exit)) (now (aims .exit)) (now («spare_words» .exit)) (now («spare_marks» .exit)) (now («spare_aims» .exit)) (now (codes .entry)) (now (codes .exit)) (now (moved .entry)) (now (moved .exit)) r ⌝ }
+    ensures { λ r. ⌜ FullRun trip side (now (words .entry)) (now (marks .entry)) (now (aims .entry)) (now («spare_words» .entry)) (now («spare_marks» .entry)) (now («spare_aims» .entry)) (now (words .exit)) (now (marks .exit)) (now (aims .exit)) (now («spare_words» .exit)) (now («spare_marks» .exit)) (now («spare_aims» .exit)) (now (codes .entry)) (now (codes .exit)) (now (moved .entry)) (now (moved .exit)) r ⌝ }
 {
     let answer = judge_full(
-        back,
+        trip,
         side,
         words.len(),
         marks,
@@ -86,9 +89,9 @@ fn full(
     if answer.number != 0 {
         return answer;
     }
-    write_codes(runs_of(back, side), codes, 0);
+    write_codes(runs_of(trip, side), codes, 0);
     perform(
-        back,
+        trip,
         side,
         7 * (side - 1) + 2,
         words,
@@ -104,7 +107,7 @@ fn full(
 
 // A run of either list up to a cut, with no log.
 fn cut_short(
-    back: bool,
+    trip: Trip,
     side: usize,
     cut: usize,
     words: &mut [u32],
@@ -114,10 +117,10 @@ fn cut_short(
     spare_marks: &mut [u8],
     spare_aims: &mut [u16],
 ) -> Answer
-    ensures { λ r. ⌜ CutRun back side cut (now (words .entry)) (now (marks .entry)) (now (aims .entry)) (now («spare_words» .entry)) (now («spare_marks» .entry)) (now («spare_aims» .entry)) (now (words .exit)) (now (marks .exit)) (now (aims .exit)) (now («spare_words» .exit)) (now («spare_marks» .exit)) (now («spare_aims» .exit)) r ⌝ }
+    ensures { λ r. ⌜ CutRun trip side cut (now (words .entry)) (now (marks .entry)) (now (aims .entry)) (now («spare_words» .entry)) (now («spare_marks» .entry)) (now («spare_aims» .entry)) (now (words .exit)) (now (marks .exit)) (now (aims .exit)) (now («spare_words» .exit)) (now («spare_marks» .exit)) (now («spare_aims» .exit)) r ⌝ }
 {
     let answer = judge_cut(
-        back,
+        trip,
         side,
         cut,
         words.len(),
@@ -132,7 +135,7 @@ fn cut_short(
     }
     let mut unlogged = [0u16; 1];
     perform(
-        back,
+        trip,
         side,
         cut,
         words,
@@ -158,10 +161,10 @@ pub fn concentrate(
     codes: &mut [u8],
     moved: &mut [u16],
 ) -> Answer
-    ensures { λ r. ⌜ FullRun false side (now (words .entry)) (now (marks .entry)) (now (aims .entry)) (now («spare_words» .entry)) (now («spare_marks» .entry)) (now («spare_aims» .entry)) (now (words .exit)) (now (marks .exit)) (now (aims .exit)) (now («spare_words» .exit)) (now («spare_marks» .exit)) (now («spare_aims» .exit)) (now (codes .entry)) (now (codes .exit)) (now (moved .entry)) (now (moved .exit)) r ⌝ }
+    ensures { λ r. ⌜ FullRun Concentrate side (now (words .entry)) (now (marks .entry)) (now (aims .entry)) (now («spare_words» .entry)) (now («spare_marks» .entry)) (now («spare_aims» .entry)) (now (words .exit)) (now (marks .exit)) (now (aims .exit)) (now («spare_words» .exit)) (now («spare_marks» .exit)) (now («spare_aims» .exit)) (now (codes .entry)) (now (codes .exit)) (now (moved .entry)) (now (moved .exit)) r ⌝ }
 {
     full(
-        false,
+        Trip::Concentrate,
         side,
         words,
         marks,
@@ -185,10 +188,10 @@ pub fn concentrate_cut(
     spare_marks: &mut [u8],
     spare_aims: &mut [u16],
 ) -> Answer
-    ensures { λ r. ⌜ CutRun false side cut (now (words .entry)) (now (marks .entry)) (now (aims .entry)) (now («spare_words» .entry)) (now («spare_marks» .entry)) (now («spare_aims» .entry)) (now (words .exit)) (now (marks .exit)) (now (aims .exit)) (now («spare_words» .exit)) (now («spare_marks» .exit)) (now («spare_aims» .exit)) r ⌝ }
+    ensures { λ r. ⌜ CutRun Concentrate side cut (now (words .entry)) (now (marks .entry)) (now (aims .entry)) (now («spare_words» .entry)) (now («spare_marks» .entry)) (now («spare_aims» .entry)) (now (words .exit)) (now (marks .exit)) (now (aims .exit)) (now («spare_words» .exit)) (now («spare_marks» .exit)) (now («spare_aims» .exit)) r ⌝ }
 {
     cut_short(
-        false,
+        Trip::Concentrate,
         side,
         cut,
         words,
@@ -212,10 +215,10 @@ pub fn distribute(
     codes: &mut [u8],
     moved: &mut [u16],
 ) -> Answer
-    ensures { λ r. ⌜ FullRun true side (now (words .entry)) (now (marks .entry)) (now (aims .entry)) (now («spare_words» .entry)) (now («spare_marks» .entry)) (now («spare_aims» .entry)) (now (words .exit)) (now (marks .exit)) (now (aims .exit)) (now («spare_words» .exit)) (now («spare_marks» .exit)) (now («spare_aims» .exit)) (now (codes .entry)) (now (codes .exit)) (now (moved .entry)) (now (moved .exit)) r ⌝ }
+    ensures { λ r. ⌜ FullRun Distribute side (now (words .entry)) (now (marks .entry)) (now (aims .entry)) (now («spare_words» .entry)) (now («spare_marks» .entry)) (now («spare_aims» .entry)) (now (words .exit)) (now (marks .exit)) (now (aims .exit)) (now («spare_words» .exit)) (now («spare_marks» .exit)) (now («spare_aims» .exit)) (now (codes .entry)) (now (codes .exit)) (now (moved .entry)) (now (moved .exit)) r ⌝ }
 {
     full(
-        true,
+        Trip::Distribute,
         side,
         words,
         marks,
@@ -239,10 +242,10 @@ pub fn distribute_cut(
     spare_marks: &mut [u8],
     spare_aims: &mut [u16],
 ) -> Answer
-    ensures { λ r. ⌜ CutRun true side cut (now (words .entry)) (now (marks .entry)) (now (aims .entry)) (now («spare_words» .entry)) (now («spare_marks» .entry)) (now («spare_aims» .entry)) (now (words .exit)) (now (marks .exit)) (now (aims .exit)) (now («spare_words» .exit)) (now («spare_marks» .exit)) (now («spare_aims» .exit)) r ⌝ }
+    ensures { λ r. ⌜ CutRun Distribute side cut (now (words .entry)) (now (marks .entry)) (now (aims .entry)) (now («spare_words» .entry)) (now («spare_marks» .entry)) (now («spare_aims» .entry)) (now (words .exit)) (now (marks .exit)) (now (aims .exit)) (now («spare_words» .exit)) (now («spare_marks» .exit)) (now («spare_aims» .exit)) r ⌝ }
 {
     cut_short(
-        true,
+        Trip::Distribute,
         side,
         cut,
         words,

@@ -11,6 +11,7 @@ use lib.ListN.{length, getD}
 use Rattle.laws.proofs.Deciding.{apart, same?}
 use Rattle.array.specs.Cells.{cells, isCell}
 use Rattle.array.proofs.Board.{cell-known}
+use Rattle.lists.specs.declared.Trip.the-variants.{Concentrate, Distribute}
 use Rattle.marks.specs.Marks.{rankIn}
 use Rattle.refusals.specs.Cases.{Good}
 
@@ -31,7 +32,7 @@ pub record Ranked (s : ℕ) (marks aims : List ℕ) : Type 0 where
   pub mark : (i : ℕ) → i < cells s → getD marks i 0 ≤ 1
   pub rank : (i : ℕ) → i < cells s → getD marks i 0 ≡ 1 → getD aims i 0 ≡ rankIn marks i
 
-pub good-ranked : (s : ℕ) (marks aims : List ℕ) → length marks ≡ cells s → Good false s marks aims → Ranked s marks aims
+pub good-ranked : (s : ℕ) (marks aims : List ℕ) → length marks ≡ cells s → Good Concentrate s marks aims → Ranked s marks aims
 good-ranked s marks aims n z = record {
   mark = λ i h. omega (arith, z .marks-good i (omega arith));
   rank = λ i h e. eqb-true (getD aims i 0) (rankIn marks i) (not-is _ (and-false (eqb (getD marks i 0) 1) _ (z .aims-good i (omega arith)) (eq-eqb (getD marks i 0) 1 e)));
@@ -44,7 +45,7 @@ pub record Aimed (s b : ℕ) (marks aims : List ℕ) : Type 0 where
   pub rising : (r : ℕ) → suc r < b → getD aims r 0 < getD aims (suc r) 0
   pub below : (r : ℕ) → r < b → getD aims r 0 < cells s
 
-module _ (s : ℕ) (marks aims : List ℕ) (n : length marks ≡ cells s) (z : Good true s marks aims) where
+module _ (s : ℕ) (marks aims : List ℕ) (n : length marks ≡ cells s) (z : Good Distribute s marks aims) where
   small : (i : ℕ) → i < cells s → getD marks i 0 < 2
   small i h = z .marks-good i (omega arith)
 

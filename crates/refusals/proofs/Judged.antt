@@ -11,53 +11,55 @@ use lib.Seq.{drop-cons, take-suc-set, take-all}
 use Rattle.laws.proofs.Searching.{Searching, searching-start, searching-next, searching-found, searching-none}
 use Rattle.answers.specs.declared.Case.{Case}
 use Rattle.logs.specs.declared.Run.{Run}
+use Rattle.lists.specs.declared.Trip.{Trip}
+use Rattle.lists.specs.declared.Trip.the-variants.{Concentrate, Distribute}
 use Rattle.marks.specs.Marks.{rankIn}
 use Rattle.refusals.specs.Cases.{badIn, badAim, firstAim, aimsCase}
 use Rattle.refusals.specs.Cuts.{firstRuns}
 
 -- the cells below i are right
-pub record Judging (back : Bool) (s : ℕ) (marks aims : List ℕ) (rank previous i : ℕ) : Type 0 where
+pub record Judging (trip : Trip) (s : ℕ) (marks aims : List ℕ) (rank previous i : ℕ) : Type 0 where
   pub rank-is : rank ≡ rankIn marks i
   pub few : rank ≤ i
   pub previous-is : 0 < i → previous ≡ getD aims (i - 1) 0
-  pub searching : Searching (badAim back s marks aims) (length marks) i
+  pub searching : Searching (badAim trip s marks aims) (length marks) i
 
-pub judging-start : (back : Bool) (s : ℕ) (marks aims : List ℕ) → Judging back s marks aims 0 0 0
-judging-start back s marks aims = record { rank-is = refl; few = omega arith; previous-is = λ h. absurd (omega arith); searching = searching-start (badAim back s marks aims) (length marks) }
+pub judging-start : (trip : Trip) (s : ℕ) (marks aims : List ℕ) → Judging trip s marks aims 0 0 0
+judging-start trip s marks aims = record { rank-is = refl; few = omega arith; previous-is = λ h. absurd (omega arith); searching = searching-start (badAim trip s marks aims) (length marks) }
 
 -- before the first cell the aim before it is not looked at
-bad-same : (back : Bool) (s i rank mark aim p q : ℕ) → (0 < i → p ≡ q) → badIn back s i rank mark aim p ≡ badIn back s i rank mark aim q
-bad-same back s zero rank mark aim p q h = go back
+bad-same : (trip : Trip) (s i rank mark aim p q : ℕ) → (0 < i → p ≡ q) → badIn trip s i rank mark aim p ≡ badIn trip s i rank mark aim q
+bad-same trip s zero rank mark aim p q h = go trip
   where
-    go : (b : Bool) → badIn b s 0 rank mark aim p ≡ badIn b s 0 rank mark aim q
-    go true = refl
-    go false = refl
-bad-same back s (suc i) rank mark aim p q h = ap (badIn back s (suc i) rank mark aim) (h (omega arith))
+    go : (t : Trip) → badIn t s 0 rank mark aim p ≡ badIn t s 0 rank mark aim q
+    go Concentrate = refl
+    go Distribute = refl
+bad-same trip s (suc i) rank mark aim p q h = ap (badIn trip s (suc i) rank mark aim) (h (omega arith))
 
-module _ {back : Bool} {s : ℕ} {marks aims : List ℕ} {rank previous i : ℕ} (z : Judging back s marks aims rank previous i) where
-  judged : badIn back s i rank (getD marks i 0) (getD aims i 0) previous ≡ badAim back s marks aims i
+module _ {trip : Trip} {s : ℕ} {marks aims : List ℕ} {rank previous i : ℕ} (z : Judging trip s marks aims rank previous i) where
+  judged : badIn trip s i rank (getD marks i 0) (getD aims i 0) previous ≡ badAim trip s marks aims i
   judged =
-      ap (λ (r : ℕ). badIn back s i r (getD marks i 0) (getD aims i 0) previous) (z .rank-is)
-      ∙ bad-same back s i (rankIn marks i) (getD marks i 0) (getD aims i 0) previous (getD aims (i - 1) 0) (z .previous-is)
+      ap (λ (r : ℕ). badIn trip s i r (getD marks i 0) (getD aims i 0) previous) (z .rank-is)
+      ∙ bad-same trip s i (rankIn marks i) (getD marks i 0) (getD aims i 0) previous (getD aims (i - 1) 0) (z .previous-is)
 
-  pub judging-next : {b : Bool} → i < length marks → getD marks i 0 < 2 → b ≡ badIn back s i rank (getD marks i 0) (getD aims i 0) previous → b ≡ false
-      → Judging back s marks aims (rank + getD marks i 0) (getD aims i 0) (i + 1)
+  pub judging-next : {b : Bool} → i < length marks → getD marks i 0 < 2 → b ≡ badIn trip s i rank (getD marks i 0) (getD aims i 0) previous → b ≡ false
+      → Judging trip s marks aims (rank + getD marks i 0) (getD aims i 0) (i + 1)
   judging-next h g e f = record {
     rank-is = rw add-one (ap (λ (n : ℕ). n + getD marks i 0) (z .rank-is));
     few = omega (arith, z .few);
     previous-is = λ u. ap (λ (k : ℕ). getD aims k 0) (omega arith);
-    searching = searching-next (badAim back s marks aims) (length marks) h (sym judged ∙ sym e ∙ f) (z .searching);
+    searching = searching-next (badAim trip s marks aims) (length marks) h (sym judged ∙ sym e ∙ f) (z .searching);
   }
 
-  pub judging-bad : {b : Bool} → i < length marks → b ≡ badIn back s i rank (getD marks i 0) (getD aims i 0) previous → b ≡ true
-      → _≡_ {A = Case} (record { applies = true; number = 6; place = i }) (aimsCase back s marks aims)
+  pub judging-bad : {b : Bool} → i < length marks → b ≡ badIn trip s i rank (getD marks i 0) (getD aims i 0) previous → b ≡ true
+      → _≡_ {A = Case} (record { applies = true; number = 6; place = i }) (aimsCase trip s marks aims)
   judging-bad h e f =
-      let x : firstAim back s marks aims ≡ i = searching-found (badAim back s marks aims) (length marks) h (sym judged ∙ sym e ∙ f) (z .searching) in
+      let x : firstAim trip s marks aims ≡ i = searching-found (badAim trip s marks aims) (length marks) h (sym judged ∙ sym e ∙ f) (z .searching) in
       rw (x, lt-ltb i (length marks) h)
 
-  pub judging-good : length marks ≤ i → _≡_ {A = Case} (record { applies = false; number = 6; place = length marks }) (aimsCase back s marks aims)
+  pub judging-good : length marks ≤ i → _≡_ {A = Case} (record { applies = false; number = 6; place = length marks }) (aimsCase trip s marks aims)
   judging-good h =
-      let x : firstAim back s marks aims ≡ length marks = searching-none (badAim back s marks aims) (length marks) h (z .searching) in
+      let x : firstAim trip s marks aims ≡ length marks = searching-none (badAim trip s marks aims) (length marks) h (z .searching) in
       rw (x, le-ltb (length marks) (length marks) (omega arith))
 
 -- the first runs found so far, and those that are left

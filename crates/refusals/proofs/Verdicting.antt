@@ -15,6 +15,7 @@ use Rattle.logs.specs.declared.Run.{Run}
 use Rattle.answers.specs.Answers.{accepted, refusing, verdict, logCase}
 use Rattle.array.proofs.Board.{side-known}
 use Rattle.answers.proofs.Verdicts.{NoneApplies, AllRefuse, none-applies, accepted-is}
+use Rattle.lists.specs.declared.Trip.{Trip}
 use Rattle.lists.specs.Lists.{runsOf}
 use Rattle.marks.specs.Marks.{marksCase}
 use Rattle.marks.proofs.Checked.{good-marks}
@@ -71,65 +72,65 @@ module _ (s w m a w₂ m₂ a₂ : ℕ) (rest : List Case) where
   pub all-refuse : AllRefuse rest → AllRefuse (laneCases s w m a w₂ m₂ a₂ ++ rest)
   all-refuse r = (omega arith, (omega arith, (omega arith, (omega arith, (omega arith, (omega arith, (omega arith, r)))))))
 
-pub good-by : (back : Bool) (s : ℕ) (marks aims : List ℕ) → marksCase marks .applies ≡ false → aimsCase back s marks aims .applies ≡ false → Good back s marks aims
-good-by back s marks aims e f = record { marks-good = good-marks marks e; aims-good = none-found (badAim back s marks aims) (length marks) f }
+pub good-by : (trip : Trip) (s : ℕ) (marks aims : List ℕ) → marksCase marks .applies ≡ false → aimsCase trip s marks aims .applies ≡ false → Good trip s marks aims
+good-by trip s marks aims e f = record { marks-good = good-marks marks e; aims-good = none-found (badAim trip s marks aims) (length marks) f }
 
 -- a full run that is accepted
-pub record FullKnown (back : Bool) (s w m a w₂ m₂ a₂ : ℕ) (marks aims : List ℕ) : Type 0 where
+pub record FullKnown (trip : Trip) (s w m a w₂ m₂ a₂ : ℕ) (marks aims : List ℕ) : Type 0 where
   pub fits : Fitting s w m a w₂ m₂ a₂
-  pub good : Good back s marks aims
+  pub good : Good trip s marks aims
 
-pub full-known : (back : Bool) (s w m a w₂ m₂ a₂ codes moved : ℕ) (marks aims : List ℕ) (b : Answer) {r : Answer} → r ≡ verdict (fullCases back s w m a w₂ m₂ a₂ codes moved marks aims) b → r .number ≡ 0
-    → FullKnown back s w m a w₂ m₂ a₂ marks aims
-full-known back s w m a w₂ m₂ a₂ codes moved marks aims b e h =
-    let rest = logCase (runsOf back s) codes ∷ logCase (runsOf back s) moved ∷ marksCase marks ∷ aimsCase back s marks aims ∷ [] in
+pub full-known : (trip : Trip) (s w m a w₂ m₂ a₂ codes moved : ℕ) (marks aims : List ℕ) (b : Answer) {r : Answer} → r ≡ verdict (fullCases trip s w m a w₂ m₂ a₂ codes moved marks aims) b → r .number ≡ 0
+    → FullKnown trip s w m a w₂ m₂ a₂ marks aims
+full-known trip s w m a w₂ m₂ a₂ codes moved marks aims b e h =
+    let rest = logCase (runsOf trip s) codes ∷ logCase (runsOf trip s) moved ∷ marksCase marks ∷ aimsCase trip s marks aims ∷ [] in
     let n = none-applies (laneCases s w m a w₂ m₂ a₂ ++ rest) b (all-refuse s w m a w₂ m₂ a₂ rest (omega arith, (omega arith, (omega arith, (omega arith, tt))))) (sym (ap (λ (x : Answer). x .number) e) ∙ h) in
     let o = others s w m a w₂ m₂ a₂ rest n in
-    record { fits = fitting s w m a w₂ m₂ a₂ rest n; good = good-by back s marks aims (o .1 .1 .0) (o .1 .1 .1 .0) }
+    record { fits = fitting s w m a w₂ m₂ a₂ rest n; good = good-by trip s marks aims (o .1 .1 .0) (o .1 .1 .1 .0) }
 
 -- a cut run that is accepted
-pub record CutKnown (back : Bool) (s cut w m a w₂ m₂ a₂ : ℕ) (marks aims : List ℕ) : Type 0 where
+pub record CutKnown (trip : Trip) (s cut w m a w₂ m₂ a₂ : ℕ) (marks aims : List ℕ) : Type 0 where
   pub fits : Fitting s w m a w₂ m₂ a₂
-  pub good : Good back s marks aims
+  pub good : Good trip s marks aims
   pub inside : cut ≤ totalMoves s
 
-pub cut-known : (back : Bool) (s cut w m a w₂ m₂ a₂ : ℕ) (marks aims : List ℕ) (b : Answer) {r : Answer} → r ≡ verdict (cutCases back s cut w m a w₂ m₂ a₂ marks aims) b → r .number ≡ 0
-    → CutKnown back s cut w m a w₂ m₂ a₂ marks aims
-cut-known back s cut w m a w₂ m₂ a₂ marks aims b e h =
-    let rest = marksCase marks ∷ aimsCase back s marks aims ∷ cutCase s cut ∷ [] in
+pub cut-known : (trip : Trip) (s cut w m a w₂ m₂ a₂ : ℕ) (marks aims : List ℕ) (b : Answer) {r : Answer} → r ≡ verdict (cutCases trip s cut w m a w₂ m₂ a₂ marks aims) b → r .number ≡ 0
+    → CutKnown trip s cut w m a w₂ m₂ a₂ marks aims
+cut-known trip s cut w m a w₂ m₂ a₂ marks aims b e h =
+    let rest = marksCase marks ∷ aimsCase trip s marks aims ∷ cutCase s cut ∷ [] in
     let n = none-applies (laneCases s w m a w₂ m₂ a₂ ++ rest) b (all-refuse s w m a w₂ m₂ a₂ rest (omega arith, (omega arith, (omega arith, tt)))) (sym (ap (λ (x : Answer). x .number) e) ∙ h) in
     let o = others s w m a w₂ m₂ a₂ rest n in
     let f = fitting s w m a w₂ m₂ a₂ rest n in
     record {
       fits = f;
-      good = good-by back s marks aims (o .0) (o .1 .0);
+      good = good-by trip s marks aims (o .0) (o .1 .0);
       inside = ltb-false (totalMoves s) cut (let x : (isSide s && ltb (totalMoves s) cut) ≡ false = o .1 .1 .0 in rw (f .side) at x);
     }
 
 -- the cases of the first step
-abbrev pub earlyFull : Bool → (s w m a w₂ m₂ a₂ codes moved : ℕ) → List ℕ → List Case
-earlyFull back s w m a w₂ m₂ a₂ codes moved marks = laneCases s w m a w₂ m₂ a₂ ++ (logCase (runsOf back s) codes ∷ logCase (runsOf back s) moved ∷ marksCase marks ∷ [])
+abbrev pub earlyFull : Trip → (s w m a w₂ m₂ a₂ codes moved : ℕ) → List ℕ → List Case
+earlyFull trip s w m a w₂ m₂ a₂ codes moved marks = laneCases s w m a w₂ m₂ a₂ ++ (logCase (runsOf trip s) codes ∷ logCase (runsOf trip s) moved ∷ marksCase marks ∷ [])
 
 abbrev pub earlyCut : (s w m a w₂ m₂ a₂ : ℕ) → List ℕ → List Case
 earlyCut s w m a w₂ m₂ a₂ marks = laneCases s w m a w₂ m₂ a₂ ++ (marksCase marks ∷ [])
 
 -- the first step, as the code makes it
-module _ (back : Bool) (s w m a w₂ m₂ a₂ : ℕ) (marks : List ℕ) {mc : Case} {none good : Answer} (e₁ : mc ≡ marksCase marks) (e₂ : none ≡ accepted 0 0) (e₃ : good ≡ refusing mc none) where
+module _ (trip : Trip) (s w m a w₂ m₂ a₂ : ℕ) (marks : List ℕ) {mc : Case} {none good : Answer} (e₁ : mc ≡ marksCase marks) (e₂ : none ≡ accepted 0 0) (e₃ : good ≡ refusing mc none) where
   good-is : good ≡ refusing (marksCase marks) (accepted 0 0)
   good-is = e₃ ∙ ap₂ refusing e₁ e₂
 
   pub cut-early : {early : Answer} → early ≡ verdict (laneCases s w m a w₂ m₂ a₂) good → early ≡ verdict (laneCases s w m a w₂ m₂ a₂ ++ (marksCase marks ∷ [])) (accepted 0 0)
   cut-early e = e ∙ ap (verdict (laneCases s w m a w₂ m₂ a₂)) good-is
 
-  pub full-early : (codes moved : ℕ) {runs : List Run} {l₁ l₂ : Case} {mid logged early : Answer} → runs ≡ runsOf back s → l₁ ≡ logCase runs codes → l₂ ≡ logCase runs moved → mid ≡ refusing l₂ good → logged ≡ refusing l₁ mid
+  pub full-early : (codes moved : ℕ) {runs : List Run} {l₁ l₂ : Case} {mid logged early : Answer} → runs ≡ runsOf trip s → l₁ ≡ logCase runs codes → l₂ ≡ logCase runs moved → mid ≡ refusing l₂ good → logged ≡ refusing l₁ mid
       → early ≡ verdict (laneCases s w m a w₂ m₂ a₂) logged
-      → early ≡ verdict (laneCases s w m a w₂ m₂ a₂ ++ (logCase (runsOf back s) codes ∷ logCase (runsOf back s) moved ∷ marksCase marks ∷ [])) (accepted 0 0)
+      → early ≡ verdict (laneCases s w m a w₂ m₂ a₂ ++ (logCase (runsOf trip s) codes ∷ logCase (runsOf trip s) moved ∷ marksCase marks ∷ [])) (accepted 0 0)
   full-early codes moved f g h i j e =
       e ∙ ap (verdict (laneCases s w m a w₂ m₂ a₂)) (j ∙ ap₂ refusing (g ∙ ap (λ (rs : List Run). logCase rs codes) f) (i ∙ ap₂ refusing (h ∙ ap (λ (rs : List Run). logCase rs moved) f) good-is))
 
-pub refuse-full : (back : Bool) (s w m a w₂ m₂ a₂ codes moved : ℕ) (marks : List ℕ) → AllRefuse (laneCases s w m a w₂ m₂ a₂ ++ (logCase (runsOf back s) codes ∷ logCase (runsOf back s) moved ∷ marksCase marks ∷ []))
-refuse-full back s w m a w₂ m₂ a₂ codes moved marks =
-    all-refuse s w m a w₂ m₂ a₂ (logCase (runsOf back s) codes ∷ logCase (runsOf back s) moved ∷ marksCase marks ∷ []) (omega arith, (omega arith, (omega arith, tt)))
+pub refuse-full : (trip : Trip) (s w m a w₂ m₂ a₂ codes moved : ℕ) (marks : List ℕ) → AllRefuse (laneCases s w m a w₂ m₂ a₂ ++ (logCase (runsOf trip s) codes ∷ logCase (runsOf trip s) moved ∷ marksCase marks ∷ []))
+refuse-full trip s w m a w₂ m₂ a₂ codes moved marks =
+    all-refuse s w m a w₂ m₂ a₂ (logCase (runsOf trip s) codes ∷ logCase (runsOf trip s) moved ∷ marksCase marks ∷ []) (omega arith, (omega arith, (omega arith, tt)))
 
 -- what the second step may take for granted
 pub record Halfway (s : ℕ) (marks aims : List ℕ) : Type 0 where
@@ -141,10 +142,10 @@ halfway s w w₂ m₂ a₂ marks aims rest n g =
     let f = fitting s w (length marks) (length aims) w₂ m₂ a₂ rest n in
     record { lengths = (f .marks ∙ sym (f .aims), omega (arith, f .marks, side-known s (f .side) .cells-few)); good = good-marks marks g }
 
-pub full-halfway : (back : Bool) (s w w₂ m₂ a₂ codes moved : ℕ) (marks aims : List ℕ)
-    → NoneApplies (laneCases s w (length marks) (length aims) w₂ m₂ a₂ ++ (logCase (runsOf back s) codes ∷ logCase (runsOf back s) moved ∷ marksCase marks ∷ [])) → Halfway s marks aims
-full-halfway back s w w₂ m₂ a₂ codes moved marks aims n =
-    let rest = logCase (runsOf back s) codes ∷ logCase (runsOf back s) moved ∷ marksCase marks ∷ [] in
+pub full-halfway : (trip : Trip) (s w w₂ m₂ a₂ codes moved : ℕ) (marks aims : List ℕ)
+    → NoneApplies (laneCases s w (length marks) (length aims) w₂ m₂ a₂ ++ (logCase (runsOf trip s) codes ∷ logCase (runsOf trip s) moved ∷ marksCase marks ∷ [])) → Halfway s marks aims
+full-halfway trip s w w₂ m₂ a₂ codes moved marks aims n =
+    let rest = logCase (runsOf trip s) codes ∷ logCase (runsOf trip s) moved ∷ marksCase marks ∷ [] in
     halfway s w w₂ m₂ a₂ marks aims rest n (others s w (length marks) (length aims) w₂ m₂ a₂ rest n .1 .1 .0)
 
 pub cut-halfway : (s w w₂ m₂ a₂ : ℕ) (marks aims : List ℕ) → NoneApplies (laneCases s w (length marks) (length aims) w₂ m₂ a₂ ++ (marksCase marks ∷ [])) → Halfway s marks aims

@@ -6,6 +6,7 @@ use answers::refusing;
 use answers::side_case;
 use array::cells::is_cell;
 use array::cells::is_side;
+use lists::Trip;
 use logs::Run;
 use logs::no_runs;
 ghost use mathlib.Core.Path.{_≡_};
@@ -15,6 +16,7 @@ ghost use lib.Dec.{ltb};
 ghost use lib.ListN.{length, getD};
 ghost use Rattle.answers.specs.Answers.{verdict};
 ghost use Rattle.array.specs.Cells.{isSide};
+ghost use Rattle.lists.specs.declared.Trip.the-variants.{Concentrate, Distribute};
 ghost use Rattle.refusals.specs.Cases.{badIn, aimsCase, totalMoves, cutCase, laneCases};
 ghost use Rattle.refusals.specs.Cuts.{firstRuns};
 
@@ -35,7 +37,7 @@ fn wide(x: u16) -> usize
 
 // A marked cell is wrong in concentrate where its aim is not its rank.
 fn bad_rank(c: Judged) -> bool
-    ensures { λ r. ⌜ r ≡ badIn false 0 (c .cell) (c .rank) (c .mark) (c .aim) (c .previous) ⌝ }
+    ensures { λ r. ⌜ r ≡ badIn Concentrate 0 (c .cell) (c .rank) (c .mark) (c .aim) (c .previous) ⌝ }
 {
     if c.mark != 1 {
         return false;
@@ -45,7 +47,7 @@ fn bad_rank(c: Judged) -> bool
 
 // And in distribute where it comes after an unmarked one, or its aim is no cell or not above the aim before it.
 fn bad_aim(side: usize, c: Judged) -> bool
-    ensures { λ r. ⌜ r ≡ badIn true side (c .cell) (c .rank) (c .mark) (c .aim) (c .previous) ⌝ }
+    ensures { λ r. ⌜ r ≡ badIn Distribute side (c .cell) (c .rank) (c .mark) (c .aim) (c .previous) ⌝ }
 {
     if c.mark != 1 {
         return false;
@@ -62,21 +64,21 @@ fn bad_aim(side: usize, c: Judged) -> bool
     c.aim <= c.previous
 }
 
-// What is wrong with a cell's aim, in concentrate or, going back, in distribute.
-fn bad(back: bool, side: usize, c: Judged) -> bool
-    ensures { λ r. ⌜ r ≡ badIn back side (c .cell) (c .rank) (c .mark) (c .aim) (c .previous) ⌝ }
+// What is wrong with a cell's aim.
+fn bad(trip: Trip, side: usize, c: Judged) -> bool
+    ensures { λ r. ⌜ r ≡ badIn trip side (c .cell) (c .rank) (c .mark) (c .aim) (c .previous) ⌝ }
 {
-    if back {
-        return bad_aim(side, c);
+    match trip {
+        Trip::Concentrate => bad_rank(c),
+        Trip::Distribute => bad_aim(side, c),
     }
-    bad_rank(c)
 }
 
 // The first cell whose aim is wrong, as a case.
-pub(crate) fn aims_case(back: bool, side: usize, marks: &[u8], aims: &[u16]) -> Case
+pub(crate) fn aims_case(trip: Trip, side: usize, marks: &[u8], aims: &[u16]) -> Case
     requires { ⌜ (length (now marks) ≡ length (now aims)) × (length (now marks) ≤ 4096) ⌝ }
     requires { ⌜ ((i : ℕ) → i < length (now marks) → getD (now marks) i 0 < 2) ⌝ }
-    ensures { λ r. ⌜ r ≡ aimsCase back side (now (marks .entry)) (now (aims .entry)) ⌝ }
+    ensures { λ r. ⌜ r ≡ aimsCase trip side (now (marks .entry)) (now (aims .entry)) ⌝ }
 {
     let n = marks.len();
     let mut rank: usize = 0;
@@ -90,7 +92,7 @@ pub(crate) fn aims_case(back: bool, side: usize, marks: &[u8], aims: &[u16]) -> 
             aim: aims[i],
             previous: previous,
         };
-        if bad(back, side, c) {
+        if bad(trip, side, c) {
             return Case {
                 applies: true,
                 number: 6,

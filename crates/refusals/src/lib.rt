@@ -10,6 +10,7 @@ use answers::accepted;
 use answers::accepted_by;
 use answers::log_case;
 use answers::refusing;
+use lists::Trip;
 use lists::runs_of;
 use marks::marks_case;
 ghost use mathlib.Core.Path.{_≡_};
@@ -21,7 +22,7 @@ ghost use Rattle.refusals.specs.Cuts.{firstRuns};
 
 // The answer of a full run, by the lengths of the lanes and logs and by the marks and aims.
 pub fn judge_full(
-    back: bool,
+    trip: Trip,
     side: usize,
     words: usize,
     marks: &[u8],
@@ -32,9 +33,9 @@ pub fn judge_full(
     codes: usize,
     moved: usize,
 ) -> Answer
-    ensures { λ r. ⌜ r ≡ verdict (fullCases back side words (length (now (marks .entry))) (length (now (aims .entry))) «spare_words» «spare_marks» «spare_aims» codes moved (now (marks .entry)) (now (aims .entry))) (acceptedBy (runsOf back side)) ⌝ }
+    ensures { λ r. ⌜ r ≡ verdict (fullCases trip side words (length (now (marks .entry))) (length (now (aims .entry))) «spare_words» «spare_marks» «spare_aims» codes moved (now (marks .entry)) (now (aims .entry))) (acceptedBy (runsOf trip side)) ⌝ }
 {
-    let runs = runs_of(back, side);
+    let runs = runs_of(trip, side);
     let good = refusing(marks_case(marks), accepted(0, 0));
     let logged = refusing(log_case(runs, codes), refusing(log_case(runs, moved), good));
     let early = refusing_lanes(
@@ -50,12 +51,12 @@ pub fn judge_full(
     if early.number != 0 {
         return early;
     }
-    refusing(aims_case(back, side, marks, aims), accepted_by(runs))
+    refusing(aims_case(trip, side, marks, aims), accepted_by(runs))
 }
 
 // The answer of a run up to a cut.
 pub fn judge_cut(
-    back: bool,
+    trip: Trip,
     side: usize,
     cut: usize,
     words: usize,
@@ -65,7 +66,7 @@ pub fn judge_cut(
     spare_marks: usize,
     spare_aims: usize,
 ) -> Answer
-    ensures { λ r. ⌜ r ≡ verdict (cutCases back side cut words (length (now (marks .entry))) (length (now (aims .entry))) «spare_words» «spare_marks» «spare_aims» (now (marks .entry)) (now (aims .entry))) (acceptedBy (firstRuns cut (runsOf back side))) ⌝ }
+    ensures { λ r. ⌜ r ≡ verdict (cutCases trip side cut words (length (now (marks .entry))) (length (now (aims .entry))) «spare_words» «spare_marks» «spare_aims» (now (marks .entry)) (now (aims .entry))) (acceptedBy (firstRuns cut (runsOf trip side))) ⌝ }
 {
     let good = refusing(marks_case(marks), accepted(0, 0));
     let early = refusing_lanes(
@@ -81,9 +82,9 @@ pub fn judge_cut(
     if early.number != 0 {
         return early;
     }
-    let runs = first_runs(runs_of(back, side), cut);
+    let runs = first_runs(runs_of(trip, side), cut);
     refusing(
-        aims_case(back, side, marks, aims),
+        aims_case(trip, side, marks, aims),
         refusing(cut_case(side, cut), accepted_by(runs)),
     )
 }

@@ -1,8 +1,9 @@
 -- Six lanes that are those of a board: the side is known, and each has as many cells.
 use Prim.Native.Nat.{ℕ}
-use mathlib.Core.Path.{_≡_}
+use mathlib.Core.Path.{_≡_, refl}
 use mathlib.Core.Bool.{true}
 use mathlib.Core.List.{List}
+use borrow.Author.Tests.{eq-eqb}
 use lib.ListN.{length}
 use Rattle.laws.proofs.Bools.{both-left, both-right}
 use Rattle.array.specs.Cells.{isSide, cells}
@@ -32,3 +33,10 @@ lanes-known s w m a w₂ m₂ a₂ h =
         aims2 = board-cells s (length a₂) (both-right (isBoard s (length m₂)) (isBoard s (length a₂)) h₄);
       };
     }
+
+-- and back
+pub lanes-are : (s : ℕ) {w m a w₂ m₂ a₂ : List ℕ} → isSide s ≡ true → Sized (cells s) w m a w₂ m₂ a₂
+    → areLanes s (length w) (length m) (length a) (length w₂) (length m₂) (length a₂) ≡ true
+lanes-are s side z =
+    let b : isBoard s (cells s) ≡ true = rw (side, eq-eqb (cells s) (cells s) refl) in
+    rw (z .words, z .marks, z .aims, z .words2, z .marks2, z .aims2, b)

@@ -4,7 +4,7 @@ use mathlib.Core.Path.{_≡_, refl, sym, ap, _∙_}
 use mathlib.Core.Bool.{Bool, true, false, cond}
 use mathlib.Core.List.{List}
 use native.Mathlib.Omega.{arith}
-use lib.ListN.{set, length-set}
+use lib.ListN.{set}
 use lib.Dec.{eqb}
 use Rattle.laws.proofs.Setting.{getD-stored}
 use Rattle.slots.specs.declared.Cell.{Cell}
@@ -25,7 +25,8 @@ pub cell-ext : {x y : Cell} → x .front .word ≡ y .front .word → x .front .
 cell-ext p q r p₂ q₂ r₂ =
     λ d. record { front = record { word = p d; mark = q d; aim = r d }; spare = record { word = p₂ d; mark = q₂ d; aim = r₂ d } }
 
-cell-stored : (w m a w₂ m₂ a₂ : List ℕ) (n : ℕ) → Sized n w m a w₂ m₂ a₂ → (i : ℕ) (x : Cell) (j : ℕ) → i < n
+-- a cell after a store
+pub cell-stored : (w m a w₂ m₂ a₂ : List ℕ) (n : ℕ) → Sized n w m a w₂ m₂ a₂ → (i : ℕ) (x : Cell) (j : ℕ) → i < n
     → cellAt (set w i (x .front .word)) (set m i (x .front .mark)) (set a i (x .front .aim)) (set w₂ i (x .spare .word)) (set m₂ i (x .spare .mark)) (set a₂ i (x .spare .aim)) j
     ≡ cond (eqb j i) x (cellAt w m a w₂ m₂ a₂ j)
 cell-stored w m a w₂ m₂ a₂ n z i x j h =
@@ -37,23 +38,6 @@ cell-stored w m a w₂ m₂ a₂ n z i x j h =
     (getD-stored m₂ i j (x .spare .mark) 0 (omega arith))
     (getD-stored a₂ i j (x .spare .aim) 0 (omega arith))
     ∙ sym (cond-cell (eqb j i) x (cellAt w m a w₂ m₂ a₂ j))
-
--- and after two
-module _ (w m a w₂ m₂ a₂ : List ℕ) (n : ℕ) (z : Sized n w m a w₂ m₂ a₂) (i : ℕ) (x : Cell) (j : ℕ) (y : Cell) (h : i < n) (l : j < n) where
-  stored : Sized n (set w i (x .front .word)) (set m i (x .front .mark)) (set a i (x .front .aim)) (set w₂ i (x .spare .word)) (set m₂ i (x .spare .mark)) (set a₂ i (x .spare .aim))
-  stored = record {
-    words = length-set w i (x .front .word) ∙ z .words;
-    marks = length-set m i (x .front .mark) ∙ z .marks;
-    aims = length-set a i (x .front .aim) ∙ z .aims;
-    words2 = length-set w₂ i (x .spare .word) ∙ z .words2;
-    marks2 = length-set m₂ i (x .spare .mark) ∙ z .marks2;
-    aims2 = length-set a₂ i (x .spare .aim) ∙ z .aims2;
-  }
-
-  pub cells-stored : (k : ℕ) → cellAt (set (set w i (x .front .word)) j (y .front .word)) (set (set m i (x .front .mark)) j (y .front .mark)) (set (set a i (x .front .aim)) j (y .front .aim))
-      (set (set w₂ i (x .spare .word)) j (y .spare .word)) (set (set m₂ i (x .spare .mark)) j (y .spare .mark)) (set (set a₂ i (x .spare .aim)) j (y .spare .aim)) k
-      ≡ cond (eqb k j) y (cond (eqb k i) x (cellAt w m a w₂ m₂ a₂ k))
-  cells-stored k = cell-stored _ _ _ _ _ _ n stored j y k l ∙ ap (cond (eqb k j) y) (cell-stored w m a w₂ m₂ a₂ n z i x k h)
 
 -- nothing put in leaves a cell as it is
 pub joined-none : (c : Cell) → joined c nothing ≡ c

@@ -28,16 +28,12 @@ joined c x =
     (alone x)
     (cond (ltb (x .aim) (c .front .aim)) (record { front = x; spare = c .front }) (record { front = c .front; spare = x })))
 
--- the record that leaves a cell, and the cell without it: the front one where that goes, or else the spare one where that goes
-abbrev pub firstOf : Bool → Bool → Cell → Rec
-firstOf true g c = c .front
-firstOf false true c = c .spare
-firstOf false false c = nothing
-
-abbrev pub restOf : Bool → Bool → Cell → Cell
-restOf true g c = alone (c .spare)
-restOf false true c = alone (c .front)
-restOf false false c = c
+-- a cell with only some of its records, those in front where there is one
+abbrev pub only : Bool → Bool → Cell → Cell
+only true true c = c
+only true false c = alone (c .front)
+only false true c = alone (c .spare)
+only false false c = empty
 
 -- the record in cell i of three lanes, and what cell i of six lanes holds
 abbrev pub recordIn : List ℕ → List ℕ → List ℕ → ℕ → Rec

@@ -2,7 +2,7 @@
 use light::is_board;
 ghost use mathlib.Core.Path.{_≡_};
 ghost use mathlib.Core.Bool.{true};
-ghost use Rattle.slots.specs.Cells.{areLanes, nothing as nothingOf, joined as joinedOf, firstOf, restOf};
+ghost use Rattle.slots.specs.Cells.{areLanes, nothing as nothingOf, empty as emptyOf, alone as aloneOf, joined as joinedOf, only as onlyOf};
 
 // A record: its word, its mark (1, or 0 where there is none) and its aim.
 pub struct Rec {
@@ -57,6 +57,24 @@ fn nothing() -> Rec
     }
 }
 
+// A cell with one record.
+fn alone(x: Rec) -> Cell
+    ensures { λ r. ⌜ r ≡ aloneOf x ⌝ }
+{
+    let none = nothing();
+    Cell {
+        front: x,
+        spare: none,
+    }
+}
+
+// A cell with no record.
+pub fn empty() -> Cell
+    ensures { λ r. ⌜ r ≡ emptyOf ⌝ }
+{
+    alone(nothing())
+}
+
 // A cell with a record put in: of two the one with the smaller aim is in front.
 pub fn joined(c: Cell, x: Rec) -> Cell
     ensures { λ r. ⌜ r ≡ joinedOf c x ⌝ }
@@ -66,11 +84,7 @@ pub fn joined(c: Cell, x: Rec) -> Cell
     }
     let front = c.front;
     if front.mark == 0 {
-        let none = nothing();
-        return Cell {
-            front: x,
-            spare: none,
-        };
+        return alone(x);
     }
     if x.aim < front.aim {
         return Cell {
@@ -84,27 +98,18 @@ pub fn joined(c: Cell, x: Rec) -> Cell
     }
 }
 
-// The record that leaves a cell, the front one or the spare one, and the cell without it.
-pub fn leaver(first: bool, c: Cell) -> Rec
-    ensures { λ r. ⌜ r ≡ firstOf first true c ⌝ }
+// A cell with only some of its records.
+pub fn only(front: bool, spare: bool, c: Cell) -> Cell
+    ensures { λ r. ⌜ r ≡ onlyOf front spare c ⌝ }
 {
-    if first { c.front } else { c.spare }
-}
-
-pub fn left(first: bool, c: Cell) -> Cell
-    ensures { λ r. ⌜ r ≡ restOf first true c ⌝ }
-{
-    let front = c.front;
-    let spare = c.spare;
-    let none = nothing();
-    if first {
-        return Cell {
-            front: spare,
-            spare: none,
-        };
+    if front {
+        if spare {
+            return c;
+        }
+        return alone(c.front);
     }
-    Cell {
-        front: front,
-        spare: none,
+    if spare {
+        return alone(c.spare);
     }
+    empty()
 }

@@ -1,13 +1,14 @@
 -- The row of a bench case, worked out in two ways: by the results that the contracts cite, and by the moves, made one after the other.
-use Prim.Native.Nat.{ℕ}
-use mathlib.Core.Bool.{Bool, true, false}
-use mathlib.Core.List.{List, [], _∷_, map}
-use lib.ListN.{length}
+use Prim.Native.Nat.{ℕ, _+_, _-_}
+use mathlib.Core.List.{List, [], _∷_, _++_, map}
+use lib.ListN.{length, getD}
 use Rattle.laws.specs.Tables.{entries}
 use Rattle.answers.specs.declared.Answer.{Answer}
 use Rattle.logs.specs.declared.Run.{Run}
 use Rattle.array.specs.Cells.{cells}
-use Rattle.logs.specs.Runs.{moves, codes as codesOf}
+use Rattle.logs.specs.Runs.{moves, swapsIn, codes as codesOf}
+use Rattle.lists.specs.declared.Trip.{Trip}
+use Rattle.lists.specs.declared.Trip.the-variants.{Concentrate as concentrate, Distribute as distribute}
 use Rattle.lists.specs.Lists.{dataSumRuns, prefixSumRuns, runsOf}
 use Rattle.shifts.specs.Shifts.{distanceOf, shiftRuns}
 use Rattle.answers.specs.Answers.{verdict, acceptedBy}
@@ -21,9 +22,10 @@ use Rattle.slides.specs.Programs.{shift, shiftedBy}
 use Rattle.slides.specs.Results.{shiftWords}
 use Rattle.words.specs.Entries.{dataSumAnswer, prefixSumAnswer, shiftAnswer}
 use Rattle.slots.specs.declared.Cell.{Cell}
-use Rattle.slots.specs.Cells.{joined, cellAt}
-use Rattle.mesh.specs.Mesh.{goesIn, goerOf, stayedOf, arrivalOf, movedOf}
-use Rattle.mover.specs.Runs.{after, movedLog}
+use Rattle.slots.specs.Cells.{empty, joined, cellAt}
+use Rattle.mesh.specs.Lines.{reach, leaves, goersOf, stayersOf, landed, laid, goesAt}
+use Rattle.mesh.specs.Mesh.{ranOn}
+use Rattle.mover.specs.Runs.{swapped, madeOf, after, movedLog}
 use Rattle.course.specs.Showing.{contentOf}
 use Rattle.clearing.specs.Cleared.{kept}
 use Rattle.ranking.specs.Ranks.{ranks}
@@ -63,16 +65,16 @@ abbrev pub wordsOnly : List ℕ → Lanes
 wordsOnly words = record { words = words; marks = []; aims = []; spareWords = []; spareMarks = []; spareAims = [] }
 
 -- the answer to concentrate, or distribute, with n cells in each spare lane and m entries in each log
-abbrev pub recordsAnswer : Bool → ℕ → (n m : ℕ) → List ℕ → List ℕ → List ℕ → Answer
-recordsAnswer back s n m words marks aims =
-    verdict (fullCases back s (length words) (length marks) (length aims) n n n m m marks aims) (acceptedBy (runsOf back s))
+abbrev pub recordsAnswer : Trip → ℕ → (n m : ℕ) → List ℕ → List ℕ → List ℕ → Answer
+recordsAnswer trip s n m words marks aims =
+    verdict (fullCases trip s (length words) (length marks) (length aims) n n n m m marks aims) (acceptedBy (runsOf trip s))
 
 -- the row of concentrate, or distribute, with its moved counts and what the cells hold after k moves
-abbrev pub recordsRow : Bool → ℕ → List ℕ → List ℕ → List ℕ → List ℕ → (ℕ → ℕ → Cell) → Row
-recordsRow back s words marks aims moved T =
+abbrev pub recordsRow : Trip → ℕ → List ℕ → List ℕ → List ℕ → List ℕ → (ℕ → ℕ → Cell) → Row
+recordsRow trip s words marks aims moved T =
     record {
-      answer = recordsAnswer back s (cells s) (totalMoves s) words marks aims;
-      codes = codesOf (runsOf back s);
+      answer = recordsAnswer trip s (cells s) (totalMoves s) words marks aims;
+      codes = codesOf (runsOf trip s);
       moved = moved;
       states = map (λ k. lanesOf (entries (T k) 0 (cells s))) (1 ∷ totalMoves s ∷ []);
     }
@@ -83,24 +85,45 @@ wordsRow answer rs words =
     record { answer = answer (length (moves rs)); codes = codesOf rs; moved = []; states = wordsOnly words ∷ [] }
 
 -- concentrate, or distribute, by the contracts: every cell holds the records that stand there
-unfoldable pub standing : Bool → ℕ → List ℕ → List ℕ → List ℕ → Row
+unfoldable pub standing : Trip → ℕ → List ℕ → List ℕ → List ℕ → Row
 unfolding contentOf joined markedCell
-standing back s words marks aims =
-    recordsRow back s words marks aims (movedCounts back s (totalMoves s) marks aims)
-    (λ k. contentOf (countIn s marks) (recordOf back s words marks aims) (cellOf back s marks aims k))
+standing trip s words marks aims =
+    recordsRow trip s words marks aims (movedCounts trip s (totalMoves s) marks aims)
+    (λ k. contentOf (countIn s marks) (recordOf trip s words marks aims) (cellOf trip s marks aims k))
+
+-- the cells of a board, written down
+abbrev pub look : List Cell → ℕ → Cell
+look cs i = getD cs i empty
+
+abbrev pub written : ℕ → (ℕ → Cell) → ℕ → Cell
+written s T = look (entries T 0 (cells s))
+
+-- the cells after the first k moves of a list, and the log of these moves: run after run, and the cells written down after each
+abbrev pub afterRuns : Trip → ℕ → List Run → ℕ → ℕ → (ℕ → Cell) → ℕ → Cell
+afterRuns trip s [] swaps k T = T
+afterRuns trip s (r ∷ rs) swaps k T =
+    afterRuns trip s rs (swaps + swapsIn (r .step) (madeOf r k)) (k - madeOf r k) (written s (after trip s (r ∷ []) swaps k T))
+
+abbrev pub logOfRuns : Trip → ℕ → List Run → ℕ → ℕ → (ℕ → Cell) → List ℕ
+logOfRuns trip s [] swaps k T = []
+logOfRuns trip s (r ∷ rs) swaps k T =
+    movedLog trip s (r ∷ []) swaps k T
+    ++ logOfRuns trip s rs (swaps + swapsIn (r .step) (madeOf r k)) (k - madeOf r k) (written s (after trip s (r ∷ []) swaps k T))
 
 -- the same move by move, from lanes whose unmarked cells were cleared
-unfoldable pub moving : Bool → ℕ → List ℕ → List ℕ → List ℕ → Row
-unfolding after movedOf arrivalOf stayedOf goerOf goesIn joined
-moving back s words marks aims = from (cellAt (kept marks words) marks (kept marks aims) [] [] [])
+unfoldable pub moving : Trip → ℕ → List ℕ → List ℕ → List ℕ → Row
+unfolding after movedLog swapped ranOn laid landed goersOf stayersOf leaves goesAt reach joined
+moving trip s words marks aims = from (cellAt (kept marks words) marks (kept marks aims) [] [] [])
   where
     from : (ℕ → Cell) → Row
-    from T = recordsRow back s words marks aims (movedLog back s (totalMoves s) T) (λ k. after back s k T)
+    from T =
+        recordsRow trip s words marks aims (logOfRuns trip s (runsOf trip s) 0 (totalMoves s) T)
+        (λ k. afterRuns trip s (runsOf trip s) 0 k T)
 
 -- by the results that the contracts cite
 abbrev pub resultRow : Case → Row
-resultRow (Concentrate s words marks) = standing false s words marks (ranks s marks)
-resultRow (Distribute s words marks aims) = standing true s words marks aims
+resultRow (Concentrate s words marks) = standing concentrate s words marks (ranks s marks)
+resultRow (Distribute s words marks aims) = standing distribute s words marks aims
 resultRow (PrefixSum s words) = wordsRow (prefixSumAnswer s (length words)) (prefixSumRuns s) (prefixSumWords s words)
 resultRow (DataSum s words) = wordsRow (dataSumAnswer s (length words)) (dataSumRuns s) (dataSumWords s words)
 resultRow (Shift s axis edge k words) =
@@ -109,8 +132,8 @@ resultRow (Shift s axis edge k words) =
 -- by the moves, made one after the other
 unfoldable pub movedRow : Case → Row
 unfolding front
-movedRow (Concentrate s words marks) = moving false s words marks (ranks s marks)
-movedRow (Distribute s words marks aims) = moving true s words marks aims
+movedRow (Concentrate s words marks) = moving concentrate s words marks (ranks s marks)
+movedRow (Distribute s words marks aims) = moving distribute s words marks aims
 movedRow (PrefixSum s words) =
     wordsRow (prefixSumAnswer s (length words)) (programRuns (prefixSum s)) (unload s (prefixed s (load s words)))
 movedRow (DataSum s words) =

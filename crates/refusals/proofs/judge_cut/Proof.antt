@@ -25,7 +25,7 @@ refusing-lanes-requires c κs = search needs
 returns : tie.Need-returns
 returns c =
     let s = c .before .before .before .before .before .before .before .before .args in
-    at-once (earlyCut (s .side) (s .words) (length (s .marks .now)) (length (s .aims .now)) (s .spare-words) (s .spare-marks) (s .spare-aims) (s .marks .now)) (refuse-cut (s .side) (s .words) (length (s .marks .now)) (length (s .aims .now)) (s .spare-words) (s .spare-marks) (s .spare-aims) (s .marks .now)) (cut-early (s .back) (s .side) (s .words) (length (s .marks .now)) (length (s .aims .now)) (s .spare-words) (s .spare-marks) (s .spare-aims) (s .marks .now) (c .before .before .before .before .before .marks-case .ensures) (c .before .before .before .before .accepted .ensures) (c .before .before .before .refusing .ensures) (c .before .before .refusing-lanes .ensures)) (refusing (aimsCase (s .back) (s .side) (s .marks .now) (s .aims .now)) (refusing (cutCase (s .side) (s .cut)) (acceptedBy (firstRuns (s .cut) (runsOf (s .back) (s .side)))))) (c .if1 .taken)
+    at-once (earlyCut (s .side) (s .words) (length (s .marks .now)) (length (s .aims .now)) (s .spare-words) (s .spare-marks) (s .spare-aims) (s .marks .now)) (refuse-cut (s .side) (s .words) (length (s .marks .now)) (length (s .aims .now)) (s .spare-words) (s .spare-marks) (s .spare-aims) (s .marks .now)) (cut-early (s .trip) (s .side) (s .words) (length (s .marks .now)) (length (s .aims .now)) (s .spare-words) (s .spare-marks) (s .spare-aims) (s .marks .now) (c .before .before .before .before .before .marks-case .ensures) (c .before .before .before .before .accepted .ensures) (c .before .before .before .refusing .ensures) (c .before .before .refusing-lanes .ensures)) (refusing (aimsCase (s .trip) (s .side) (s .marks .now) (s .aims .now)) (refusing (cutCase (s .side) (s .cut)) (acceptedBy (firstRuns (s .cut) (runsOf (s .trip) (s .side)))))) (c .if1 .taken)
 
 runs-of-requires : tie.Need-runs-of-requires
 runs-of-requires c κs = search needs
@@ -37,7 +37,7 @@ aims-case-requires : tie.Need-aims-case-requires
 aims-case-requires c κs =
     let s = c .before .before .before .before .before .before .before .before .before .before .args in
     let h = cut-halfway (s .side) (s .words) (s .spare-words) (s .spare-marks) (s .spare-aims) (s .marks .now) (s .aims .now)
-    (none-yet (earlyCut (s .side) (s .words) (length (s .marks .now)) (length (s .aims .now)) (s .spare-words) (s .spare-marks) (s .spare-aims) (s .marks .now)) (refuse-cut (s .side) (s .words) (length (s .marks .now)) (length (s .aims .now)) (s .spare-words) (s .spare-marks) (s .spare-aims) (s .marks .now)) (cut-early (s .back) (s .side) (s .words) (length (s .marks .now)) (length (s .aims .now)) (s .spare-words) (s .spare-marks) (s .spare-aims) (s .marks .now) (c .before .before .before .before .before .before .before .marks-case .ensures) (c .before .before .before .before .before .before .accepted .ensures) (c .before .before .before .before .before .refusing .ensures) (c .before .before .before .before .refusing-lanes .ensures)) (c .before .before .if1 .left)) in
+    (none-yet (earlyCut (s .side) (s .words) (length (s .marks .now)) (length (s .aims .now)) (s .spare-words) (s .spare-marks) (s .spare-aims) (s .marks .now)) (refuse-cut (s .side) (s .words) (length (s .marks .now)) (length (s .aims .now)) (s .spare-words) (s .spare-marks) (s .spare-aims) (s .marks .now)) (cut-early (s .trip) (s .side) (s .words) (length (s .marks .now)) (length (s .aims .now)) (s .spare-words) (s .spare-marks) (s .spare-aims) (s .marks .now) (c .before .before .before .before .before .before .before .marks-case .ensures) (c .before .before .before .before .before .before .accepted .ensures) (c .before .before .before .before .before .refusing .ensures) (c .before .before .before .before .refusing-lanes .ensures)) (c .before .before .if1 .left)) in
     (h .lengths, h .good)
 
 cut-case-requires : tie.Need-cut-case-requires
@@ -55,7 +55,7 @@ refusing-requires-3 c κs = search needs
 returns-2 : tie.Need-returns-2
 returns-2 c =
     let s = c .before .before .before .before .before .before .before .before .before .before .before .before .before .before .before .args in
-    later (earlyCut (s .side) (s .words) (length (s .marks .now)) (length (s .aims .now)) (s .spare-words) (s .spare-marks) (s .spare-aims) (s .marks .now)) (refuse-cut (s .side) (s .words) (length (s .marks .now)) (length (s .aims .now)) (s .spare-words) (s .spare-marks) (s .spare-aims) (s .marks .now)) (cut-early (s .back) (s .side) (s .words) (length (s .marks .now)) (length (s .aims .now)) (s .spare-words) (s .spare-marks) (s .spare-aims) (s .marks .now) (c .before .before .before .before .before .before .before .before .before .before .before .before .marks-case .ensures) (c .before .before .before .before .before .before .before .before .before .before .before .accepted .ensures) (c .before .before .before .before .before .before .before .before .before .before .refusing .ensures) (c .before .before .before .before .before .before .before .before .before .refusing-lanes .ensures)) (refusing (aimsCase (s .back) (s .side) (s .marks .now) (s .aims .now)) (refusing (cutCase (s .side) (s .cut)) (acceptedBy (firstRuns (s .cut) (runsOf (s .back) (s .side)))))) (c .before .before .before .before .before .before .before .if1 .left)
+    later (earlyCut (s .side) (s .words) (length (s .marks .now)) (length (s .aims .now)) (s .spare-words) (s .spare-marks) (s .spare-aims) (s .marks .now)) (refuse-cut (s .side) (s .words) (length (s .marks .now)) (length (s .aims .now)) (s .spare-words) (s .spare-marks) (s .spare-aims) (s .marks .now)) (cut-early (s .trip) (s .side) (s .words) (length (s .marks .now)) (length (s .aims .now)) (s .spare-words) (s .spare-marks) (s .spare-aims) (s .marks .now) (c .before .before .before .before .before .before .before .before .before .before .before .before .marks-case .ensures) (c .before .before .before .before .before .before .before .before .before .before .before .accepted .ensures) (c .before .before .before .before .before .before .before .before .before .before .refusing .ensures) (c .before .before .before .before .before .before .before .before .before .refusing-lanes .ensures)) (refusing (aimsCase (s .trip) (s .side) (s .marks .now) (s .aims .now)) (refusing (cutCase (s .side) (s .cut)) (acceptedBy (firstRuns (s .cut) (runsOf (s .trip) (s .side)))))) (c .before .before .before .before .before .before .before .if1 .left)
     (c .refusing3 .ensures ∙ ap₂ refusing (c .before .before .before .before .aims-case .ensures) (c .before .refusing2 .ensures ∙ ap₂ refusing (c .before .before .before .cut-case .ensures) (c .before .before .accepted-by .ensures ∙ ap acceptedBy (c .before .before .before .before .before .first-runs .ensures ∙ ap (firstRuns (s .cut)) (c .before .before .before .before .before .before .runs-of .ensures)))))
 
 pub judge-cut-spec : {M : Type 1} → statement M

@@ -39,16 +39,16 @@ refusing-lanes-requires c κs = search needs
 returns : tie.Need-returns
 returns c =
     let s = c .before .before .before .before .before .before .before .before .before .before .before .before .before .args in
-    at-once (earlyFull (s .back) (s .side) (s .words) (length (s .marks .now)) (length (s .aims .now)) (s .spare-words) (s .spare-marks) (s .spare-aims) (s .codes) (s .moved) (s .marks .now)) (refuse-full (s .back) (s .side) (s .words) (length (s .marks .now)) (length (s .aims .now)) (s .spare-words) (s .spare-marks) (s .spare-aims) (s .codes) (s .moved) (s .marks .now))
-    (full-early (s .back) (s .side) (s .words) (length (s .marks .now)) (length (s .aims .now)) (s .spare-words) (s .spare-marks) (s .spare-aims) (s .marks .now) (c .before .before .before .before .before .before .before .before .before .marks-case .ensures) (c .before .before .before .before .before .before .before .before .accepted .ensures) (c .before .before .before .before .before .before .before .refusing .ensures) (s .codes) (s .moved) (c .before .before .before .before .before .before .before .before .before .before .runs-of .ensures) (c .before .before .before .before .before .before .log-case .ensures) (c .before .before .before .before .before .log-case2 .ensures) (c .before .before .before .before .refusing2 .ensures) (c .before .before .before .refusing3 .ensures) (c .before .before .refusing-lanes .ensures))
-    (refusing (aimsCase (s .back) (s .side) (s .marks .now) (s .aims .now)) (acceptedBy (runsOf (s .back) (s .side))))
+    at-once (earlyFull (s .trip) (s .side) (s .words) (length (s .marks .now)) (length (s .aims .now)) (s .spare-words) (s .spare-marks) (s .spare-aims) (s .codes) (s .moved) (s .marks .now)) (refuse-full (s .trip) (s .side) (s .words) (length (s .marks .now)) (length (s .aims .now)) (s .spare-words) (s .spare-marks) (s .spare-aims) (s .codes) (s .moved) (s .marks .now))
+    (full-early (s .trip) (s .side) (s .words) (length (s .marks .now)) (length (s .aims .now)) (s .spare-words) (s .spare-marks) (s .spare-aims) (s .marks .now) (c .before .before .before .before .before .before .before .before .before .marks-case .ensures) (c .before .before .before .before .before .before .before .before .accepted .ensures) (c .before .before .before .before .before .before .before .refusing .ensures) (s .codes) (s .moved) (c .before .before .before .before .before .before .before .before .before .before .runs-of .ensures) (c .before .before .before .before .before .before .log-case .ensures) (c .before .before .before .before .before .log-case2 .ensures) (c .before .before .before .before .refusing2 .ensures) (c .before .before .before .refusing3 .ensures) (c .before .before .refusing-lanes .ensures))
+    (refusing (aimsCase (s .trip) (s .side) (s .marks .now) (s .aims .now)) (acceptedBy (runsOf (s .trip) (s .side))))
     (c .if1 .taken)
 
 aims-case-requires : tie.Need-aims-case-requires
 aims-case-requires c κs =
     let s = c .before .before .before .before .before .before .before .before .before .before .before .before .before .args in
-    let h = full-halfway (s .back) (s .side) (s .words) (s .spare-words) (s .spare-marks) (s .spare-aims) (s .codes) (s .moved) (s .marks .now) (s .aims .now)
-    (none-yet (earlyFull (s .back) (s .side) (s .words) (length (s .marks .now)) (length (s .aims .now)) (s .spare-words) (s .spare-marks) (s .spare-aims) (s .codes) (s .moved) (s .marks .now)) (refuse-full (s .back) (s .side) (s .words) (length (s .marks .now)) (length (s .aims .now)) (s .spare-words) (s .spare-marks) (s .spare-aims) (s .codes) (s .moved) (s .marks .now)) (full-early (s .back) (s .side) (s .words) (length (s .marks .now)) (length (s .aims .now)) (s .spare-words) (s .spare-marks) (s .spare-aims) (s .marks .now) (c .before .before .before .before .before .before .before .before .before .marks-case .ensures) (c .before .before .before .before .before .before .before .before .accepted .ensures) (c .before .before .before .before .before .before .before .refusing .ensures) (s .codes) (s .moved) (c .before .before .before .before .before .before .before .before .before .before .runs-of .ensures) (c .before .before .before .before .before .before .log-case .ensures) (c .before .before .before .before .before .log-case2 .ensures) (c .before .before .before .before .refusing2 .ensures) (c .before .before .before .refusing3 .ensures) (c .before .before .refusing-lanes .ensures)) (c .if1 .left)) in
+    let h = full-halfway (s .trip) (s .side) (s .words) (s .spare-words) (s .spare-marks) (s .spare-aims) (s .codes) (s .moved) (s .marks .now) (s .aims .now)
+    (none-yet (earlyFull (s .trip) (s .side) (s .words) (length (s .marks .now)) (length (s .aims .now)) (s .spare-words) (s .spare-marks) (s .spare-aims) (s .codes) (s .moved) (s .marks .now)) (refuse-full (s .trip) (s .side) (s .words) (length (s .marks .now)) (length (s .aims .now)) (s .spare-words) (s .spare-marks) (s .spare-aims) (s .codes) (s .moved) (s .marks .now)) (full-early (s .trip) (s .side) (s .words) (length (s .marks .now)) (length (s .aims .now)) (s .spare-words) (s .spare-marks) (s .spare-aims) (s .marks .now) (c .before .before .before .before .before .before .before .before .before .marks-case .ensures) (c .before .before .before .before .before .before .before .before .accepted .ensures) (c .before .before .before .before .before .before .before .refusing .ensures) (s .codes) (s .moved) (c .before .before .before .before .before .before .before .before .before .before .runs-of .ensures) (c .before .before .before .before .before .before .log-case .ensures) (c .before .before .before .before .before .log-case2 .ensures) (c .before .before .before .before .refusing2 .ensures) (c .before .before .before .refusing3 .ensures) (c .before .before .refusing-lanes .ensures)) (c .if1 .left)) in
     (h .lengths, h .good)
 
 accepted-by-requires : tie.Need-accepted-by-requires
@@ -60,9 +60,9 @@ refusing-requires-4 c κs = search needs
 returns-2 : tie.Need-returns-2
 returns-2 c =
     let s = c .before .before .before .before .before .before .before .before .before .before .before .before .before .before .before .before .args in
-    later (earlyFull (s .back) (s .side) (s .words) (length (s .marks .now)) (length (s .aims .now)) (s .spare-words) (s .spare-marks) (s .spare-aims) (s .codes) (s .moved) (s .marks .now)) (refuse-full (s .back) (s .side) (s .words) (length (s .marks .now)) (length (s .aims .now)) (s .spare-words) (s .spare-marks) (s .spare-aims) (s .codes) (s .moved) (s .marks .now))
-    (full-early (s .back) (s .side) (s .words) (length (s .marks .now)) (length (s .aims .now)) (s .spare-words) (s .spare-marks) (s .spare-aims) (s .marks .now) (c .before .before .before .before .before .before .before .before .before .before .before .before .marks-case .ensures) (c .before .before .before .before .before .before .before .before .before .before .before .accepted .ensures) (c .before .before .before .before .before .before .before .before .before .before .refusing .ensures) (s .codes) (s .moved) (c .before .before .before .before .before .before .before .before .before .before .before .before .before .runs-of .ensures) (c .before .before .before .before .before .before .before .before .before .log-case .ensures) (c .before .before .before .before .before .before .before .before .log-case2 .ensures) (c .before .before .before .before .before .before .before .refusing2 .ensures) (c .before .before .before .before .before .before .refusing3 .ensures) (c .before .before .before .before .before .refusing-lanes .ensures))
-    (refusing (aimsCase (s .back) (s .side) (s .marks .now) (s .aims .now)) (acceptedBy (runsOf (s .back) (s .side))))
+    later (earlyFull (s .trip) (s .side) (s .words) (length (s .marks .now)) (length (s .aims .now)) (s .spare-words) (s .spare-marks) (s .spare-aims) (s .codes) (s .moved) (s .marks .now)) (refuse-full (s .trip) (s .side) (s .words) (length (s .marks .now)) (length (s .aims .now)) (s .spare-words) (s .spare-marks) (s .spare-aims) (s .codes) (s .moved) (s .marks .now))
+    (full-early (s .trip) (s .side) (s .words) (length (s .marks .now)) (length (s .aims .now)) (s .spare-words) (s .spare-marks) (s .spare-aims) (s .marks .now) (c .before .before .before .before .before .before .before .before .before .before .before .before .marks-case .ensures) (c .before .before .before .before .before .before .before .before .before .before .before .accepted .ensures) (c .before .before .before .before .before .before .before .before .before .before .refusing .ensures) (s .codes) (s .moved) (c .before .before .before .before .before .before .before .before .before .before .before .before .before .runs-of .ensures) (c .before .before .before .before .before .before .before .before .before .log-case .ensures) (c .before .before .before .before .before .before .before .before .log-case2 .ensures) (c .before .before .before .before .before .before .before .refusing2 .ensures) (c .before .before .before .before .before .before .refusing3 .ensures) (c .before .before .before .before .before .refusing-lanes .ensures))
+    (refusing (aimsCase (s .trip) (s .side) (s .marks .now) (s .aims .now)) (acceptedBy (runsOf (s .trip) (s .side))))
     (c .before .before .before .if1 .left)
     (c .refusing4 .ensures ∙ ap₂ refusing (c .before .before .aims-case .ensures) (c .before .accepted-by .ensures ∙ ap acceptedBy (c .before .before .before .before .before .before .before .before .before .before .before .before .before .runs-of .ensures)))
 

@@ -9,12 +9,12 @@ returns : tie.Need-returns
 unfolding joined
 returns c = rw (eq-eqb _ _ (c .if1 .taken))
 
-nothing-requires : tie.Need-nothing-requires
-nothing-requires c κs = tt
+alone-requires : tie.Need-alone-requires
+alone-requires c κs = tt
 
 returns-2 : tie.Need-returns-2
 unfolding joined
-returns-2 c = rw (ne-eqb _ _ (c .before .before .before .before .if1 .left), eq-eqb _ _ (c .before .if2 .taken), c .nothing .ensures)
+returns-2 c = rw (ne-eqb _ _ (c .before .before .before .before .if1 .left), eq-eqb _ _ (c .before .if2 .taken), c .alone .ensures)
 
 returns-3 : tie.Need-returns-3
 unfolding joined
@@ -25,4 +25,4 @@ unfolding joined
 returns-4 c = let s = c .before .before .before .before .before .before .before .before .args in rw (ne-eqb _ _ (c .before .before .before .before .before .before .if1 .left), ne-eqb _ _ (c .before .before .before .if2 .left), le-ltb (s .x .aim) (s .c .front .aim) (omega (arith, c .if3 .left)))
 
 pub joined-spec : {M : Type 1} → statement M
-joined-spec = tie.close (tie.spec returns nothing-requires returns-2 returns-3 returns-4)
+joined-spec = tie.close (tie.spec returns alone-requires returns-2 returns-3 returns-4)

@@ -1,5 +1,4 @@
--- `mesh::cells::put` meets its contract: two stores in each lane.
-use Rattle.slots.proofs.Stored.{cells-stored}
+use Rattle.slots.proofs.Stored.{cell-stored}
 use borrow.Author.Needs.{needs}
 use Rattle.mesh.proofs.cells.put.Statement.{statement}
 use Rattle.mesh.proofs.cells.put.Tie as tie
@@ -34,36 +33,6 @@ mul-spare-aims c = search needs
 slice-write-spare-aims : tie.Need-slice-write-spare-aims
 slice-write-spare-aims c = search needs
 
-mul-words-2 : tie.Need-mul-words-2
-mul-words-2 c = search needs
-
-slice-write-words-2 : tie.Need-slice-write-words-2
-slice-write-words-2 c = search needs
-
-slice-write-marks-2 : tie.Need-slice-write-marks-2
-slice-write-marks-2 c = search needs
-
-mul-aims-2 : tie.Need-mul-aims-2
-mul-aims-2 c = search needs
-
-slice-write-aims-2 : tie.Need-slice-write-aims-2
-slice-write-aims-2 c = search needs
-
-mul-spare-words-2 : tie.Need-mul-spare-words-2
-mul-spare-words-2 c = search needs
-
-slice-write-spare-words-2 : tie.Need-slice-write-spare-words-2
-slice-write-spare-words-2 c = search needs
-
-slice-write-spare-marks-2 : tie.Need-slice-write-spare-marks-2
-slice-write-spare-marks-2 c = search needs
-
-mul-spare-aims-2 : tie.Need-mul-spare-aims-2
-mul-spare-aims-2 c = search needs
-
-slice-write-spare-aims-2 : tie.Need-slice-write-spare-aims-2
-slice-write-spare-aims-2 c = search needs
-
 same-length : tie.Need-same-length
 same-length c = search needs
 
@@ -83,7 +52,7 @@ same-length-6 : tie.Need-same-length-6
 same-length-6 c = search needs
 
 returns : tie.Need-returns
-returns c k = let s = c .before .before .before .before in cells-stored _ _ _ _ _ _ _ (s .pre .0) (s .args .i) (s .args .c) (s .args .j) (s .args .d) (s .pre .1 .0) (s .pre .1 .1) k
+returns c = λ k. let s = c .before .before in cell-stored _ _ _ _ _ _ _ (s .pre .1) (s .args .i) (s .args .c) k (s .pre .0)
 
 pub put-spec : {M : Type 1} → statement M
 put-spec =
@@ -99,16 +68,6 @@ put-spec =
     slice-write-spare-marks
     mul-spare-aims
     slice-write-spare-aims
-    mul-words-2
-    slice-write-words-2
-    slice-write-marks-2
-    mul-aims-2
-    slice-write-aims-2
-    mul-spare-words-2
-    slice-write-spare-words-2
-    slice-write-spare-marks-2
-    mul-spare-aims-2
-    slice-write-spare-aims-2
     same-length
     same-length-2
     same-length-3

@@ -26,7 +26,7 @@ slice-aggregate-perform : tie.Need-slice-aggregate-perform
 slice-aggregate-perform c = search needs
 
 perform-requires : tie.Need-perform-requires
-perform-requires c κs = let k = (cut-known (c .before .before .before .before .before .before .before .before .before .before .before .before .before .before .before .before .before .before .args .back) (c .before .before .before .before .before .before .before .before .before .before .before .before .before .before .before .before .before .before .args .side) (c .before .before .before .before .before .before .before .before .before .before .before .before .before .before .before .before .before .before .args .cut) (length (c .before .before .before .before .before .before .before .before .before .before .before .before .before .before .before .before .before .before .args .words .now)) (length (c .before .before .before .before .before .before .before .before .before .before .before .before .before .before .before .before .before .before .args .marks .now)) (length (c .before .before .before .before .before .before .before .before .before .before .before .before .before .before .before .before .before .before .args .aims .now)) (length (c .before .before .before .before .before .before .before .before .before .before .before .before .before .before .before .before .before .before .args .spare-words .now)) (length (c .before .before .before .before .before .before .before .before .before .before .before .before .before .before .before .before .before .before .args .spare-marks .now)) (length (c .before .before .before .before .before .before .before .before .before .before .before .before .before .before .before .before .before .before .args .spare-aims .now)) (c .before .before .before .before .before .before .before .before .before .before .before .before .before .before .before .before .before .before .args .marks .now) (c .before .before .before .before .before .before .before .before .before .before .before .before .before .before .before .before .before .before .args .aims .now) (acceptedBy (firstRuns (c .before .before .before .before .before .before .before .before .before .before .before .before .before .before .before .before .before .before .args .cut) (runsOf (c .before .before .before .before .before .before .before .before .before .before .before .before .before .before .before .before .before .before .args .back) (c .before .before .before .before .before .before .before .before .before .before .before .before .before .before .before .before .before .before .args .side)))) (c .before .before .before .before .before .before .before .before .before .judge-cut .ensures) (c .before .before .before .before .before .before .before .if1 .left)) in (k .fits .side, (fitting-sized (k .fits), (k .inside, k .good)))
+perform-requires c κs = let k = (cut-known (c .before .before .before .before .before .before .before .before .before .before .before .before .before .before .before .before .before .before .args .trip) (c .before .before .before .before .before .before .before .before .before .before .before .before .before .before .before .before .before .before .args .side) (c .before .before .before .before .before .before .before .before .before .before .before .before .before .before .before .before .before .before .args .cut) (length (c .before .before .before .before .before .before .before .before .before .before .before .before .before .before .before .before .before .before .args .words .now)) (length (c .before .before .before .before .before .before .before .before .before .before .before .before .before .before .before .before .before .before .args .marks .now)) (length (c .before .before .before .before .before .before .before .before .before .before .before .before .before .before .before .before .before .before .args .aims .now)) (length (c .before .before .before .before .before .before .before .before .before .before .before .before .before .before .before .before .before .before .args .spare-words .now)) (length (c .before .before .before .before .before .before .before .before .before .before .before .before .before .before .before .before .before .before .args .spare-marks .now)) (length (c .before .before .before .before .before .before .before .before .before .before .before .before .before .before .before .before .before .before .args .spare-aims .now)) (c .before .before .before .before .before .before .before .before .before .before .before .before .before .before .before .before .before .before .args .marks .now) (c .before .before .before .before .before .before .before .before .before .before .before .before .before .before .before .before .before .before .args .aims .now) (acceptedBy (firstRuns (c .before .before .before .before .before .before .before .before .before .before .before .before .before .before .before .before .before .before .args .cut) (runsOf (c .before .before .before .before .before .before .before .before .before .before .before .before .before .before .before .before .before .before .args .trip) (c .before .before .before .before .before .before .before .before .before .before .before .before .before .before .before .before .before .before .args .side)))) (c .before .before .before .before .before .before .before .before .before .judge-cut .ensures) (c .before .before .before .before .before .before .before .if1 .left)) in (k .fits .side, (fitting-sized (k .fits), (k .inside, k .good)))
 
 same-length-3 : tie.Need-same-length-3
 same-length-3 c = c .before .before .before .before .before .before .before .before .before .before .before .before .before .perform .kept .1 .1 .1 .0

@@ -9,13 +9,13 @@ use Rattle.refusals.proofs.judging.aims_case.Statement.{statement}
 use Rattle.refusals.proofs.judging.aims_case.Tie as tie
 
 abbrev Inv-loop : tie.InvT-loop
-Inv-loop back side marks aims n rank₀ previous₀ i₀ rank previous i = (i ≤ n) × (n ≡ length marks) × Judging back side marks aims rank previous i
+Inv-loop trip side marks aims n rank₀ previous₀ i₀ rank previous i = (i ≤ n) × (n ≡ length marks) × Judging trip side marks aims rank previous i
 
 abbrev μ-loop : tie.MeasureT-loop
-μ-loop back side marks aims n rank₀ previous₀ i₀ rank previous i = n - i
+μ-loop trip side marks aims n rank₀ previous₀ i₀ rank previous i = n - i
 
 loop-holds : tie.Need-loop-holds Inv-loop μ-loop
-loop-holds c = (omega arith, refl, judging-start (c .before .before .args .back) (c .before .before .args .side) _ _)
+loop-holds c = (omega arith, refl, judging-start (c .before .before .args .trip) (c .before .before .args .side) _ _)
 
 shared-slice-read-rank : tie.Need-shared-slice-read-rank Inv-loop μ-loop
 shared-slice-read-rank c = omega (arith, c .before .loop-test .taken)

@@ -1,0 +1,83 @@
+-- The rule of a leg is one of a board, and a run of all groups is a run of the board.
+use Prim.Native.Nat.{ℕ, zero, suc, _+_, _*_, _≤_, _<_, min}
+use mathlib.Core.Path.{_≡_, refl, sym, ap, _∙_, subst}
+use mathlib.Core.Logic.{_⊎_, inl, inr}
+use mathlib.Core.Bool.{Bool, true, false}
+use mathlib.Core.List.{List}
+use native.Mathlib.Nat.{mul-pos, mul-assoc, one-mul, mul-one, mul-le-mul}
+use native.Mathlib.Omega.{arith}
+use lib.ListN.{getD, replicate}
+use denote.Ref.{now}
+use Rattle.array.specs.declared.moves.Way.{Way}
+use Rattle.array.specs.declared.moves.Way.the-variants.{Right, Left, Up, Down}
+use Rattle.array.specs.Cells.{isSide, groups}
+use Rattle.array.proofs.Board.{Side, side-known}
+use Rattle.slots.specs.declared.Cell.{Cell}
+use Rattle.slots.specs.Lanes.{Lent}
+use Rattle.mesh.specs.declared.lines.Rule.{Rule}
+use Rattle.mesh.specs.declared.Leg.{Leg}
+use Rattle.mesh.specs.Mesh.{strideOf, unitOf, ruleOf, RanLanes}
+use Rattle.mesh.specs.Inside.{shareOf, Ruled, Strided, RanGroups}
+
+-- the digits of an aim are those of a number below 4,096
+module _ {s : ℕ} (k : Side s) where
+  stride-pos : (w : Way) → 0 < strideOf s w
+  stride-pos Right = omega arith
+  stride-pos Left = omega arith
+  stride-pos Up = k .least
+  stride-pos Down = k .least
+
+  stride-few : (w : Way) → strideOf s w ≤ 8
+  stride-few Right = omega arith
+  stride-few Left = omega arith
+  stride-few Up = k .most
+  stride-few Down = k .most
+
+  unit-pos : (low : Bool) (w : Way) → 0 < unitOf s low (strideOf s w)
+  unit-pos true w = stride-pos w
+  unit-pos false w = mul-pos (stride-pos w) (k .groups-pos)
+
+  unit-few : (low : Bool) (w : Way) → unitOf s low (strideOf s w) ≤ 512
+  unit-few true w = omega (arith, stride-few w)
+  unit-few false w = mul-le-mul (stride-few w) (k .groups-few)
+
+  pub period-few : (low : Bool) (w : Way) → (1 ≤ s * unitOf s low (strideOf s w)) × (s * unitOf s low (strideOf s w) ≤ 4096)
+  period-few low w = (mul-pos (k .least) (unit-pos low w), mul-le-mul (k .most) (unit-few low w))
+
+strided : (s : ℕ) (w : Way) → (strideOf s w ≡ 1) ⊎ (strideOf s w ≡ s)
+strided s Right = inl refl
+strided s Left = inl refl
+strided s Up = inr refl
+strided s Down = inr refl
+
+pub ruled : (l : Leg) {t : Rule} {share : ℕ} → isSide (l .side) ≡ true → t ≡ ruleOf l → share ≡ shareOf (t .side * t .unit) → Ruled t share × Strided t
+ruled l {t} {share} side e f =
+    let k = side-known (l .side) side in
+    rw e (
+      record {
+        side = side;
+        unit = unit-pos k (l .low) (l .way);
+        few = period-few k (l .low) (l .way) .1;
+        stride = stride-pos k (l .way);
+        shared = f ∙ ap (λ (r : Rule). shareOf (r .side * r .unit)) e;
+        within = omega arith;
+      },
+      strided (l .side) (l .way),
+    )
+
+-- counts of nothing
+pub no-counts : (n d : ℕ) → _≡_ {A = ℕ} (getD (replicate n 0) d 0) 0
+no-counts zero d = refl
+no-counts (suc n) zero = refl
+no-counts (suc n) (suc d) = no-counts n d
+
+never : {b : Bool} → b ≡ true → b ≡ false → ⊥
+never u v = let z : _≡_ {A = ℕ} 0 1 = cc in omega arith
+
+pub ran-none : {lanes : Bool} {t : Rule} {T : ℕ → Cell} → lanes ≡ false → RanLanes lanes t T T (replicate 8 0)
+ran-none e = record { made = λ h. absurd (never h e); went = λ h. absurd (never h e); kept = λ h i. refl; none = λ h d u. no-counts 8 d }
+
+pub ran-all : {lanes : Bool} {t u : Rule} {T C : ℕ → Cell} {counts : Lent} {r : List ℕ} → lanes ≡ true → t ≡ u → now (counts .exit) ≡ r → RanGroups t T C counts → RanLanes lanes u T C r
+ran-all {lanes} {t} {u} {T} {C} {counts} {r} e f g z =
+    subst (λ (u : Rule). RanLanes lanes u T C r) f
+    (record { made = λ h. z .made; went = λ h d v. ap (λ (l : List ℕ). getD l d 0) (sym g) ∙ z .went d v; kept = λ h. absurd (never e h); none = λ h. absurd (never e h) })

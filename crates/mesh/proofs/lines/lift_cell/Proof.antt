@@ -1,0 +1,99 @@
+use mathlib.Core.Path.{sym, _∙_}
+use borrow.Author.Tests.{not-true, not-false}
+use Rattle.mesh.proofs.Lifting.{lifted-none, lifted-some}
+use borrow.Author.Needs.{needs}
+use Rattle.mesh.proofs.lines.lift_cell.Statement.{statement}
+use Rattle.mesh.proofs.lines.lift_cell.Tie as tie
+
+slice-read-goes : tie.Need-slice-read-goes
+slice-read-goes c = search needs
+
+mul-goes : tie.Need-mul-goes
+mul-goes c = search needs
+
+slice-read-goes-2 : tie.Need-slice-read-goes-2
+slice-read-goes-2 c = search needs
+
+goes-requires : tie.Need-goes-requires
+goes-requires c κs = search needs
+
+slice-read-goes-3 : tie.Need-slice-read-goes-3
+slice-read-goes-3 c = search needs
+
+mul-goes-2 : tie.Need-mul-goes-2
+mul-goes-2 c = search needs
+
+slice-read-goes-4 : tie.Need-slice-read-goes-4
+slice-read-goes-4 c = search needs
+
+goes-requires-2 : tie.Need-goes-requires-2
+goes-requires-2 c κs = search needs
+
+either-requires : tie.Need-either-requires
+either-requires c κs = search needs
+
+empty-requires : tie.Need-empty-requires
+empty-requires c κs = search needs
+
+returns : tie.Need-returns
+returns c = lifted-none (c .before .before .before .before .before .before .goes .ensures _) (c .before .before .before .goes2 .ensures _) (sym (c .before .before .either .ensures) ∙ not-true _ (c .before .if1 .taken)) (c .empty .ensures)
+
+read-requires : tie.Need-read-requires
+read-requires c κs = search needs
+
+only-requires : tie.Need-only-requires
+only-requires c κs = search needs
+
+put-requires : tie.Need-put-requires
+put-requires c κs = let s = c .before .before .before .before .before .before .before .before .before .before .before .before .before .before .before .before .before .before .before .before .before .before .before .before .before .before .before .before in (s .pre .0 .1, s .pre .1)
+
+only-requires-2 : tie.Need-only-requires-2
+only-requires-2 c κs = search needs
+
+same-length : tie.Need-same-length
+same-length c = search needs
+
+same-length-2 : tie.Need-same-length-2
+same-length-2 c = search needs
+
+same-length-3 : tie.Need-same-length-3
+same-length-3 c = search needs
+
+same-length-4 : tie.Need-same-length-4
+same-length-4 c = search needs
+
+same-length-5 : tie.Need-same-length-5
+same-length-5 c = search needs
+
+same-length-6 : tie.Need-same-length-6
+same-length-6 c = search needs
+
+returns-2 : tie.Need-returns-2
+returns-2 c = lifted-some (c .before .before .before .before .before .before .before .before .before .before .before .before .before .before .before .before .before .before .before .before .before .read .ensures) (c .before .before .before .before .before .before .before .before .before .before .before .before .before .before .before .before .before .before .before .before .before .before .before .before .before .before .before .before .before .before .before .before .before .goes .ensures _) (c .before .before .before .before .before .before .before .before .before .before .before .before .before .before .before .before .before .before .before .before .before .before .before .before .before .before .before .before .before .before .goes2 .ensures _) (c .before .before .before .before .before .before .before .before .before .before .before .before .before .before .before .before .before .before .before .before .only .ensures) (c .before .before .before .before .before .before .before .before .before .before .before .before .before .put .ensures) (c .only2 .ensures)
+
+pub lift-cell-spec : {M : Type 1} → statement M
+lift-cell-spec =
+    tie.close
+    (tie.spec
+    slice-read-goes
+    mul-goes
+    slice-read-goes-2
+    goes-requires
+    slice-read-goes-3
+    mul-goes-2
+    slice-read-goes-4
+    goes-requires-2
+    either-requires
+    empty-requires
+    returns
+    read-requires
+    only-requires
+    put-requires
+    only-requires-2
+    same-length
+    same-length-2
+    same-length-3
+    same-length-4
+    same-length-5
+    same-length-6
+    returns-2)

@@ -1,0 +1,86 @@
+use mathlib.Core.Path.{refl}
+use native.Mathlib.Omega.{arith}
+use Rattle.mesh.proofs.Laying.{ran-still, ran-moved}
+use borrow.Author.Needs.{needs}
+use Rattle.mesh.proofs.lines.run_line.Statement.{statement}
+use Rattle.mesh.proofs.lines.run_line.Tie as tie
+use Rattle.mesh.proofs.lines.run_line.Reads as reads
+use Rattle.mesh.proofs.lines.run_line.Lts as lts
+use Rattle.mesh.proofs.lines.first_goer.Reads as first-goer-reads
+use Rattle.mesh.proofs.lines.lift.Reads as lift-reads
+use Rattle.mesh.proofs.lines.put_line.Reads as put-line-reads
+
+first-goer-requires : tie.Need-first-goer-requires
+first-goer-requires c κs = search needs
+
+lift-requires : tie.Need-lift-requires
+lift-requires c κs = let s = c .before .before .before .before .before .before .before .before .before .before .before .before .before .before .before .before .before .before .before .before in (s .pre .0, (c .before .before .before .before .before .before .if1 .taken, s .pre .1 .1))
+
+put-line-requires : tie.Need-put-line-requires
+put-line-requires c κs = let s = c .before .before .before .before .before .before .before .before .before .before .before .before .before .before .before .before .before .before .before .before .before .before .before .before .before .before .before .before .before .before .before .before .before .before .before .before .before .before .before .before in let r = s .pre .1 .0 in (s .pre .0, ((c .before .before .before .before .before .before .before .before .before .before .before .before .before .before .before .before .before .before .before .before .before .before .before .before .before .before .if1 .taken, record { long = r .long; room = r .room }), omega (arith, s .pre .1 .1, c .before .before .before .before .before .before .before .before .before .before .before .before .before .before .before .before .before .before .before .lift .kept)))
+
+same-length : tie.Need-same-length
+same-length c = search needs
+
+same-length-2 : tie.Need-same-length-2
+same-length-2 c = search needs
+
+same-length-3 : tie.Need-same-length-3
+same-length-3 c = search needs
+
+same-length-4 : tie.Need-same-length-4
+same-length-4 c = search needs
+
+same-length-5 : tie.Need-same-length-5
+same-length-5 c = search needs
+
+same-length-6 : tie.Need-same-length-6
+same-length-6 c = search needs
+
+same-length-7 : tie.Need-same-length-7
+same-length-7 c = search needs
+
+returns : tie.Need-returns
+returns c =
+    let s = c .before .before .before .before .before .before .before .before .before .before .before .before .before .before .before .before .before .before .before .before .before .before .before .before .before .before .before .before .before .before .before .before .before .before .before .before .before .before .before .before .before .before .before .before .before .before .before .before .before .before .before .before .before .before .before in
+    let f = c .before .before .before .before .before .before .before .before .before .before .before .before .before .before .before .before .before .before .before .before .before .before .before .before .before .before .before .before .before .before .before .before .before .before .before .before .before .before .before .before .before .before .before .first-goer .ensures in
+    ran-moved (s .pre .0 .0) _ _ _ (f .within) (λ p h. (f .front p h _, f .spare p h _)) _ (c .before .before .before .before .before .before .before .before .before .before .before .before .before .before .before .before .before .before .before .before .before .before .before .before .before .before .before .before .before .before .before .before .before .before .lift .ensures) (c .before .before .before .before .before .before .before .before .before .before .before .before .before .before .put-line .ensures) refl refl
+
+same-length-8 : tie.Need-same-length-8
+same-length-8 c = search needs
+
+same-length-9 : tie.Need-same-length-9
+same-length-9 c = search needs
+
+same-length-10 : tie.Need-same-length-10
+same-length-10 c = search needs
+
+same-length-11 : tie.Need-same-length-11
+same-length-11 c = search needs
+
+returns-2 : tie.Need-returns-2
+returns-2 c =
+    let s = c .before .before .before .before .before .before .before .before .before .before .before .before .before .before in
+    let f = c .before .before .first-goer .ensures in
+    ran-still (s .pre .0 .0) _ _ _ (f .within) (λ p h. (f .front p h _, f .spare p h _)) (omega (arith, c .if1 .left)) refl
+
+pub run-line-spec : {M : Type 1} → statement M
+run-line-spec =
+    tie.close
+    (tie.spec
+    first-goer-requires
+    lift-requires
+    put-line-requires
+    same-length
+    same-length-2
+    same-length-3
+    same-length-4
+    same-length-5
+    same-length-6
+    same-length-7
+    returns
+    same-length-8
+    same-length-9
+    same-length-10
+    same-length-11
+    returns-2)

@@ -1,0 +1,71 @@
+-- A run of electronic moves on one line of cells, a row or a column of a group. Each record of the line goes by the move rule, one move after the other.
+use Prim.Native.Nat.{ℕ, zero, suc, _+_, _-_, _/_, _%_}
+use mathlib.Core.Bool.{Bool, true, false, cond, not, _&&_}
+use lib.Dec.{ltb, eqb}
+use Rattle.slots.specs.declared.Rec.{Rec}
+use Rattle.slots.specs.declared.Cell.{Cell}
+use Rattle.slots.specs.Cells.{joined, only}
+use Rattle.mesh.specs.declared.lines.Rule.{Rule}
+
+-- the digit of weight u of a number in base s: of an aim it tells the cell of the line that the record heads for, of a cell which of its line it is
+abbrev pub digitOf : ℕ → ℕ → ℕ → ℕ
+digitOf s u x = x / u % s
+
+-- how far off its place a record waits in move j. It goes until it is there; going late, it sets off when it is as far from its place as moves of the run are left
+abbrev pub waitOf : Rule → ℕ → ℕ
+waitOf t j = cond (t .late) (t .times - 1 - j) 0
+
+-- the cell of the line after move j of a record in cell p that heads for cell h
+abbrev pub stepOf : Rule → ℕ → ℕ → ℕ → ℕ
+stepOf t h j p = cond (t .up && ltb (p + waitOf t j) h) (p + 1) (cond (t .down && ltb (h + waitOf t j) p) (p - 1) p)
+
+-- the same after the first k moves of the run
+unfoldable pub reach : Rule → ℕ → ℕ → ℕ → ℕ
+reach t h p zero = p
+reach t h p (suc k) = stepOf t h k (reach t h p k)
+
+-- the cell that a record heads for, and the cell where one of cell p is once the moves are made
+abbrev pub headOf : Rule → Rec → ℕ
+headOf t x = digitOf (t .side) (t .unit) (x .aim)
+
+abbrev pub endOf : Rule → ℕ → Rec → ℕ
+endOf t p x = reach t (headOf t x) p (t .made)
+
+-- whether a record of cell p is in another cell then
+unfoldable pub leaves : Rule → ℕ → Rec → Bool
+leaves t p x = cond (eqb (x .mark) 0) false (not (eqb (endOf t p x) p))
+
+-- what leaves cell p, and what stays there
+unfoldable pub goersOf : Rule → ℕ → Cell → Cell
+goersOf t p c = only (leaves t p (c .front)) (leaves t p (c .spare)) c
+
+unfoldable pub stayersOf : Rule → ℕ → Cell → Cell
+stayersOf t p c = only (not (leaves t p (c .front))) (not (leaves t p (c .spare))) c
+
+-- cell p once a record that left cell q is put down: with it, where its way ends there
+unfoldable pub landed : Rule → ℕ → ℕ → Rec → Cell → Cell
+landed t p q x c = cond (eqb (endOf t q x) p) (joined c x) c
+
+-- what cell p holds once all that left the first q cells is put down
+unfoldable pub laid : Rule → (ℕ → Cell) → ℕ → ℕ → Cell
+laid t U p zero = stayersOf t p (U p)
+laid t U p (suc q) = landed t p q (goersOf t q (U q) .spare) (landed t p q (goersOf t q (U q) .front) (laid t U p q))
+
+-- cell p of a line after the moves
+abbrev pub ranLine : Rule → (ℕ → Cell) → ℕ → Cell
+ranLine t U p = laid t U p (t .side)
+
+-- 1 where a record that began the run in cell p goes in move j, else 0
+unfoldable pub goesAt : Rule → ℕ → ℕ → Rec → ℕ
+goesAt t j p x = cond (eqb (x .mark) 0) 0 (cond (eqb (reach t (headOf t x) p (suc j)) (reach t (headOf t x) p j)) 0 1)
+
+-- how far a record in cell p has to go that heads for cell h, of the ways that the run has
+abbrev pub distanceOf : Rule → ℕ → ℕ → ℕ
+distanceOf t p h = cond (ltb p h) (cond (t .up) (h - p) 0) (cond (t .down) (p - h) 0)
+
+-- 1 where a record leaves cell p that has d cells to go, else 0; and of both records of a cell
+unfoldable pub wentOf : Rule → ℕ → ℕ → Rec → ℕ
+wentOf t d p x = cond (leaves t p x) (cond (eqb d (distanceOf t p (headOf t x))) 1 0) 0
+
+abbrev pub wentFrom : Rule → ℕ → ℕ → Cell → ℕ
+wentFrom t d p c = wentOf t d p (c .front) + wentOf t d p (c .spare)
