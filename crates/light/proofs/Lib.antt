@@ -1,3 +1,5 @@
+pub mod Boards
 pub mod Leaving
 pub mod Partners
 pub mod Turning
+pub mod Walking

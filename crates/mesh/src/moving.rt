@@ -2,7 +2,7 @@
 use crate::cells::put;
 use crate::cells::read;
 use array::moves::Way;
-use slots::are_lanes;
+use light::are_lanes;
 use slots::joined;
 use slots::leaver;
 use slots::left;
@@ -11,7 +11,8 @@ ghost use mathlib.Core.Bool.{true, _||_};
 ghost use Prim.Native.Nat.{ℕ, _+_, _-_, _*_, _<_, _≤_, min};
 ghost use lib.ListN.{length};
 ghost use Rattle.array.specs.Cells.{isSide, groups, cells, onward as onwardOf};
-ghost use Rattle.slots.specs.Cells.{Sized, cellAt, areLanes};
+ghost use Rattle.light.specs.Lanes.{areLanes};
+ghost use Rattle.slots.specs.Cells.{Sized, cellAt};
 ghost use Rattle.mesh.specs.Mesh.{goesIn};
 ghost use Rattle.mesh.specs.Moved.{MovedLanes};
 ghost use Rattle.mesh.specs.Inside.{unitOf, scaleOf, coordinate as coordinateOf, turnOf, periodOf, shareOf, limitFor, limitOf, Limited, Ready, HandedOn, Sent, MovedGroup, MovedPart};

@@ -22,22 +22,16 @@ use Rattle.travel.specs.declared.turns.Turn.{Turn}
 use Rattle.slots.specs.declared.Cell.{Cell}
 use Rattle.mesh.specs.declared.moving.Rule.{Rule}
 use Rattle.light.specs.Lane.{isBoard}
-use Rattle.slots.specs.Cells.{countOf, marksIn, Sized, areLanes}
+use Rattle.light.specs.Lanes.{areLanes}
+use Rattle.slots.specs.Cells.{countOf, marksIn, Sized}
 use Rattle.mesh.specs.Mesh.{goerOf}
 use Rattle.mesh.specs.Moved.{MovedAll, MovedLanes}
 use Rattle.mesh.proofs.Sweep.{one-most}
 use Rattle.mesh.proofs.Parts.{moved-same}
 use Rattle.mesh.proofs.Groups.{count-few}
-use Rattle.mover.specs.Swaps.{SwappedAll}
 use Rattle.mover.specs.Runs.{ruleOf, turnOn, madeBy, goneBy, goneOn, after, movedLog, Made, Ran}
 
--- a move by what it is
-pub made-swap : {back : Bool} {s r : ℕ} {x : Turn} {T T′ : ℕ → Cell} → x .step ≡ Swap → SwappedAll s T T′ r → Made back s x T T′ r
-made-swap {back} {s} {r} {x} {T} {T′} e w = record {
-  made = λ i h. w .took i h ∙ ap (λ (m : Move). madeBy back s x m T i) (sym e);
-  count = w .count ∙ ap (λ (m : Move). goneBy back s x m T) (sym e);
-}
-
+-- an electronic move
 pub made-way : {back : Bool} {s r : ℕ} {x : Turn} {w : Way} {t : Rule} {T T′ : ℕ → Cell} → x .step ≡ Electronic w → t ≡ ruleOf back s w x → MovedAll t T T′ r → Made back s x T T′ r
 made-way {back} {s} {r} {x} {w} {t} {T} {T′} e f m =
     let z : MovedAll (ruleOf back s w x) T T′ r = subst (λ (t : Rule). MovedAll t T T′ r) f m in

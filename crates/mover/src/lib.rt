@@ -1,3 +1,2 @@
-// The mover: the swap of all lanes, and the moves of concentrate's list or of distribute's, made one after the other up to a cut.
+// The mover: the moves of concentrate's list or of distribute's, made one after the other up to a cut.
 pub mod runs;
-pub mod swaps;

@@ -1,11 +1,11 @@
 // The first moves of concentrate's list, or of distribute's, made one after the other on six lanes.
-use crate::swaps::swap_all;
 use array::moves::Move;
 use array::moves::Way;
+use light::are_lanes;
+use light::swap_lanes;
 use lists::runs_of;
 use mesh::moving::Rule;
 use mesh::moving::move_all;
-use slots::are_lanes;
 use travel::turns::Turn;
 use travel::turns::turn_at;
 ghost use mathlib.Core.Path.{_≡_};
@@ -13,7 +13,8 @@ ghost use mathlib.Core.Bool.{true};
 ghost use Prim.Native.Nat.{ℕ, _-_, _≤_};
 ghost use lib.ListN.{length, set};
 ghost use Rattle.array.specs.Cells.{isSide, cells};
-ghost use Rattle.slots.specs.Cells.{Sized, cellAt, areLanes};
+ghost use Rattle.light.specs.Lanes.{areLanes};
+ghost use Rattle.slots.specs.Cells.{Sized, cellAt};
 ghost use Rattle.mover.specs.Runs.{ruleOf, Made, Ran};
 
 // The rule of an electronic move: concentrate's, or distribute's, which goes back.
@@ -60,7 +61,7 @@ fn make(
 {
     let step = turn.step;
     match step {
-        Move::Swap => swap_all(
+        Move::Swap => swap_lanes(
             side,
             words,
             marks,

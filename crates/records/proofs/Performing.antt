@@ -16,9 +16,10 @@ use Rattle.array.specs.Cells.{isSide, cells}
 use Rattle.array.proofs.Board.{side-known}
 use Rattle.travel.specs.Travel.{stands}
 use Rattle.travel.proofs.Collide.{at-the-end}
+use Rattle.light.specs.Lanes.{areLanes}
 use Rattle.slots.specs.declared.Rec.{Rec}
 use Rattle.slots.specs.declared.Cell.{Cell}
-use Rattle.slots.specs.Cells.{cellAt, Sized, areLanes, recordIn, alone, empty}
+use Rattle.slots.specs.Cells.{cellAt, Sized, recordIn, alone, empty}
 use Rattle.slots.proofs.Stored.{cell-ext}
 use Rattle.mover.specs.Runs.{turnOn, goneOn, after, movedLog, Ran}
 use Rattle.mover.proofs.Running.{lanes-are}

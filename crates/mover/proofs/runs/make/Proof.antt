@@ -1,5 +1,6 @@
 -- `mover::runs::make` meets its contract: by what the move is.
-use Rattle.mover.proofs.Running.{made-lanes, lanes-are, made-swap}
+use Rattle.mover.proofs.Running.{made-lanes, lanes-are}
+use Rattle.mover.proofs.Swapping.{made-swap}
 use borrow.Author.Needs.{needs}
 use Rattle.mover.proofs.runs.make.Statement.{statement}
 use Rattle.mover.proofs.runs.make.Tie as tie
@@ -7,8 +8,8 @@ use Rattle.mover.proofs.runs.make.Tie as tie
 enum-told : tie.Need-enum-told
 enum-told c = search needs
 
-swap-all-requires : tie.Need-swap-all-requires
-swap-all-requires c κs = (c .before .before .before .before .before .before .before .before .before .before .before .before .before .before .pre .0, c .before .before .before .before .before .before .before .before .before .before .before .before .before .before .pre .1)
+swap-lanes-requires : tie.Need-swap-lanes-requires
+swap-lanes-requires c κs = tt
 
 enum-known-step : tie.Need-enum-known-step
 enum-known-step c = search needs
@@ -20,25 +21,25 @@ move-all-requires : tie.Need-move-all-requires
 move-all-requires c κs = tt
 
 same-length : tie.Need-same-length
-same-length c = c .before .before .before .before .before .before .before .before .before .before .before .before .swap-all .kept .1 .0
+same-length c = c .before .before .before .before .before .before .before .before .before .before .before .before .swap-lanes .kept .1 .0
 
 same-length-2 : tie.Need-same-length-2
-same-length-2 c = c .before .before .before .before .before .before .before .before .before .before .before .before .swap-all .kept .1 .1 .0
+same-length-2 c = c .before .before .before .before .before .before .before .before .before .before .before .before .swap-lanes .kept .1 .1 .0
 
 same-length-3 : tie.Need-same-length-3
-same-length-3 c = c .before .before .before .before .before .before .before .before .before .before .before .before .swap-all .kept .1 .1 .1 .0
+same-length-3 c = c .before .before .before .before .before .before .before .before .before .before .before .before .swap-lanes .kept .1 .1 .1 .0
 
 same-length-4 : tie.Need-same-length-4
-same-length-4 c = c .before .before .before .before .before .before .before .before .before .before .before .before .swap-all .kept .1 .1 .1 .1 .0
+same-length-4 c = c .before .before .before .before .before .before .before .before .before .before .before .before .swap-lanes .kept .1 .1 .1 .1 .0
 
 same-length-5 : tie.Need-same-length-5
-same-length-5 c = c .before .before .before .before .before .before .before .before .before .before .before .before .swap-all .kept .1 .1 .1 .1 .1 .0
+same-length-5 c = c .before .before .before .before .before .before .before .before .before .before .before .before .swap-lanes .kept .1 .1 .1 .1 .1 .0
 
 same-length-6 : tie.Need-same-length-6
-same-length-6 c = c .before .before .before .before .before .before .before .before .before .before .before .before .swap-all .kept .1 .1 .1 .1 .1 .1 .0
+same-length-6 c = c .before .before .before .before .before .before .before .before .before .before .before .before .swap-lanes .kept .1 .1 .1 .1 .1 .1 .0
 
 returns : tie.Need-returns
-returns c = made-swap (c .before .before .before .before .before .before .before .before .before .before .before .before .before .before .before .before .before .before .before .enum-told .given .1) (c .before .before .before .before .before .before .before .before .before .before .before .before .swap-all .ensures)
+returns c = made-swap (c .before .before .before .before .before .before .before .before .before .before .before .before .before .before .before .before .before .before .before .before .before .before .before .before .before .before .before .args .side) (c .before .before .before .before .before .before .before .before .before .before .before .before .before .before .before .before .before .before .before .before .before .before .before .before .before .before .before .pre .0) (c .before .before .before .before .before .before .before .before .before .before .before .before .before .before .before .before .before .before .before .enum-told .given .1) (c .before .before .before .before .before .before .before .before .before .before .before .before .before .before .before .before .before .before .before .before .before .before .before .before .before .before .before .pre .1) (c .before .before .before .before .before .before .before .before .before .before .before .before .swap-lanes .ensures)
 
 same-length-7 : tie.Need-same-length-7
 same-length-7 c = c .before .before .before .before .before .before .before .before .before .before .before .before .move-all .kept .1 .0
@@ -66,7 +67,7 @@ make-spec =
     tie.close
     (tie.spec
     enum-told
-    swap-all-requires
+    swap-lanes-requires
     enum-known-step
     rule-of-requires
     move-all-requires
