@@ -16,7 +16,7 @@ pub record Listed (s : ℕ) (list : List ℕ) : Type 0 where
 abbrev pub heldIn : List ℕ → List ℕ → ℕ → ℕ
 heldIn m m₂ i = markCount (getD m i 0) + markCount (getD m₂ i 0)
 
--- six lanes as they are lent
+-- a lane in a requires, and a table of six
 abbrev Lane : Type 0
 Lane = RefT (List ℕ)
 

@@ -22,6 +22,7 @@ pub record Table : Type 0 where
   pub marks2 : List ℕ
   pub aims2 : List ℕ
 
+-- the table of six lists
 abbrev pub table : List ℕ → List ℕ → List ℕ → List ℕ → List ℕ → List ℕ → Table
 table w m a w₂ m₂ a₂ = record { words = w; marks = m; aims = a; words2 = w₂; marks2 = m₂; aims2 = a₂ }
 
@@ -42,11 +43,13 @@ pub record Swapped (s : ℕ) (t u : Table) (r : ℕ) : Type 0 where
 abbrev pub Lent : Type 0
 Lent = Both (RefT (List ℕ)) (RefT (List ℕ))
 
+-- six lent lanes as they were, and as they are
 abbrev pub before : Lent → Lent → Lent → Lent → Lent → Lent → Table
 before w m a w₂ m₂ a₂ = table (now (w .entry)) (now (m .entry)) (now (a .entry)) (now (w₂ .entry)) (now (m₂ .entry)) (now (a₂ .entry))
 
 abbrev pub after : Lent → Lent → Lent → Lent → Lent → Lent → Table
 after w m a w₂ m₂ a₂ = table (now (w .exit)) (now (m .exit)) (now (a .exit)) (now (w₂ .exit)) (now (m₂ .exit)) (now (a₂ .exit))
 
+-- what a swap of lent lanes does
 abbrev pub SwappedLanes : ℕ → Lent → Lent → Lent → Lent → Lent → Lent → ℕ → Type 0
 SwappedLanes s w m a w₂ m₂ a₂ r = Swapped s (before w m a w₂ m₂ a₂) (after w m a w₂ m₂ a₂) r
