@@ -1,29 +1,70 @@
--- How many records leave their cells in a swap, cell after cell.
-use Prim.Native.Nat.{ℕ, _+_, _*_, _≤_}
-use mathlib.Core.Path.{_≡_, refl, ap₂, _∙_, ap}
-use mathlib.Core.List.{List}
-use native.Mathlib.Numerals.{add-one}
+-- How many records leave their cells in a swap, counted in pairs: a cell and its partner, when they trade.
+use Prim.Native.Nat.{ℕ, zero, suc, min, _+_, _≤_, _<_}
+use mathlib.Core.Path.{_≡_, refl, sym, ap, _∙_}
+use mathlib.Core.Logic.{⊎-elim}
+use mathlib.Core.Bool.{cond}
 use native.Mathlib.Omega.{arith}
-use lib.ListN.{getD}
+use borrow.Author.Tests.{eq-eqb, ne-eqb, lt-ltb, le-ltb}
+use lib.Dec.{eqb, ltb}
 use Rattle.laws.specs.Sums.{sum}
-use Rattle.array.specs.Cells.{partner}
-use Rattle.array.proofs.Board.{Side}
-use Rattle.light.specs.Counts.{leavesOf}
-use Rattle.light.proofs.Partners.{first-partner}
+use Rattle.laws.proofs.Deciding.{same?, ltb-next}
+use Rattle.laws.proofs.Sums.{sum-cong, sum-nothing}
+use Rattle.laws.proofs.Trading.{Paired}
 
--- how many leave the cells below i; p is the partner of cell i
-pub record Leaving (s : ℕ) (marks spares : List ℕ) (i p count : ℕ) : Type 0 where
-  pub is : p ≡ partner s i
-  pub few : count ≤ 2 * i
-  pub so-far : count ≡ sum i (λ j. leavesOf (partner s j) j (getD marks j 0) (getD spares j 0))
+-- a sum of which one value changes
+sum-changed : (n j : ℕ) (f g : ℕ → ℕ) → j < n → ((i : ℕ) → i < n → (i ≡ j → ⊥) → g i ≡ f i) → sum n g + f j ≡ sum n f + g j
+sum-changed zero j f g h e = absurd (omega arith)
+sum-changed (suc n) j f g h e =
+    ⊎-elim
+    (λ d. omega (arith, sum-cong n {f = g} {g = f} (λ i l. e i (omega arith) (λ u. omega arith)), ap f d, ap g d))
+    (λ d. omega (arith, sum-changed n j f g (omega (arith, d)) (λ i l. e i (omega arith)), e n (omega arith) (λ u. d (sym u))))
+    (same? j n)
 
-pub leaving-start : {s : ℕ} → Side s → (marks spares : List ℕ) → Leaving s marks spares 0 0 0
-leaving-start k marks spares = record { is = first-partner k; few = omega arith; so-far = refl }
+-- and of which two do that were 0
+sum-paired : (n j q : ℕ) (f g : ℕ → ℕ) → j < q → q < n → f j ≡ 0 → f q ≡ 0 → ((i : ℕ) → i < n → (i ≡ j → ⊥) → (i ≡ q → ⊥) → g i ≡ f i) → sum n g ≡ sum n f + (g j + g q)
+sum-paired n j q f g l h a b e =
+    let one = sum-changed n j f half (omega arith) (λ i u d. rw (ne-eqb i j d)) in
+    let two = sum-changed n q half g h (λ i u d. ⊎-elim (λ v. sym (here i v)) (λ v. e i u v d ∙ sym (there i v)) (same? i j)) in
+    omega (arith, one, two, here j refl, there q (λ u. omega arith))
+  where
+    half : ℕ → ℕ
+    half i = cond (eqb i j) (g i) (f i)
 
-pub leaving-next : {s : ℕ} {marks spares : List ℕ} {i p count r q : ℕ} → r ≤ 2 → r ≡ leavesOf p i (getD marks i 0) (getD spares i 0)
-    → q ≡ partner s (i + 1) → Leaving s marks spares i p count → Leaving s marks spares (i + 1) q (count + r)
-leaving-next {s} {marks} {spares} {i} h e f z = record {
-  is = f;
-  few = omega (arith, z .few);
-  so-far = rw add-one (ap₂ _+_ (z .so-far) (e ∙ ap (λ (p : ℕ). leavesOf p i (getD marks i 0) (getD spares i 0)) (z .is)));
-}
+    here : (i : ℕ) → i ≡ j → half i ≡ g i
+    here i v = rw (eq-eqb i j v)
+
+    there : (i : ℕ) → (i ≡ j → ⊥) → half i ≡ f i
+    there i v = rw (ne-eqb i j v)
+
+-- the sum over the entries that had their turn among the first j
+abbrev pub turned : ℕ → (ℕ → ℕ) → ℕ → (ℕ → ℕ) → ℕ
+turned n p j f = sum n (λ i. cond (ltb (min i (p i)) j) (f i) 0)
+
+pub turned-start : (n : ℕ) (p f : ℕ → ℕ) → turned n p 0 f ≡ 0
+turned-start n p f = sum-nothing n _ (λ i h. rw (le-ltb (min i (p i)) 0 (omega arith)))
+
+pub turned-end : (n j : ℕ) (p f : ℕ → ℕ) → n ≤ j → turned n p j f ≡ sum n f
+turned-end n j p f h = sum-cong n (λ i u. rw (lt-ltb (min i (p i)) j (omega arith)))
+
+-- one turn; an entry that is its own partner counts for nothing
+module _ {n : ℕ} {p : ℕ → ℕ} (pairs : Paired n p) {j : ℕ} (h : j < n) (f : ℕ → ℕ) where
+  turns : (i : ℕ) → i < n → (i ≡ j → ⊥) → (i ≡ p j → ⊥) → min i (p i) ≡ j → ⊥
+  turns i u d d' e = ⊎-elim (λ v. d' (sym (pairs .twice i u) ∙ ap p v)) (λ v. d (omega (arith, v))) (same? (p i) j)
+
+  pub turned-trade : j < p j → turned n p (j + 1) f ≡ turned n p j f + (f j + f (p j))
+  turned-trade l =
+      let q : p (p j) ≡ j = pairs .twice j h in
+      let e = sum-paired n j (p j) (λ i. cond (ltb (min i (p i)) j) (f i) 0) (λ i. cond (ltb (min i (p i)) (j + 1)) (f i) 0) l (pairs .inside j h)
+      (rw (le-ltb (min j (p j)) j (omega arith)))
+      (rw (le-ltb (min (p j) (p (p j))) j (omega arith)))
+      (λ i u d d'. rw (ltb-next (min i (p i)) j (turns i u d d'))) in
+      rw (lt-ltb (min j (p j)) (j + 1) (omega arith), lt-ltb (min (p j) (p (p j))) (j + 1) (omega arith)) at e
+
+  pub turned-skip : p j ≤ j → (p j ≡ j → f j ≡ 0) → turned n p (j + 1) f ≡ turned n p j f
+  turned-skip l z = sum-cong n (λ i u. ⊎-elim (here i u) (λ d. other i (λ e. ⊎-elim (λ v. omega (arith, d)) (λ v. turns i u d v e) (same? i (p j)))) (same? i j))
+    where
+      other : (i : ℕ) → (min i (p i) ≡ j → ⊥) → cond (ltb (min i (p i)) (j + 1)) (f i) 0 ≡ cond (ltb (min i (p i)) j) (f i) 0
+      other i d = rw (ltb-next (min i (p i)) j d)
+
+      here : (i : ℕ) → i < n → i ≡ j → cond (ltb (min i (p i)) (j + 1)) (f i) 0 ≡ cond (ltb (min i (p i)) j) (f i) 0
+      here i u e = ⊎-elim (λ v. rw (lt-ltb (min i (p i)) (j + 1) (omega (arith, ap p e)), le-ltb (min i (p i)) j (omega (arith, ap p e))) (ap f e ∙ z v)) (λ v. other i (λ w. v (omega (arith, ap p e)))) (same? (p j) j)

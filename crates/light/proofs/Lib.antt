@@ -1,4 +1,6 @@
+pub mod Boards
 pub mod Groups
 pub mod Leaving
 pub mod Partners
 pub mod Turning
+pub mod Walking

@@ -1,11 +1,11 @@
--- The swap of a lane as it is made: turn after turn, each cell trades with its partner where that comes later. One law for marks and aims.
-use Prim.Native.Nat.{ℕ, _+_, _≤_, _<_}
-use mathlib.Core.Path.{_≡_, refl, sym, _∙_}
+-- The swap of a lane as it is made: turn after turn, each cell trades with its partner where that comes later. One law for every width.
+use Prim.Native.Nat.{ℕ, min, _+_, _≤_, _<_}
+use mathlib.Core.Path.{_≡_, refl, sym, ap, _∙_}
 use mathlib.Core.Bool.{true, false}
 use mathlib.Core.Logic.{_⊎_}
 use mathlib.Core.List.{List}
 use native.Mathlib.Omega.{arith}
-use borrow.Author.Tests.{eqb-true}
+use borrow.Author.Tests.{eqb-true, le-ltb}
 use lib.Dec.{eqb}
 use lib.ListN.{length, getD, set}
 use Rattle.laws.proofs.Bools.{both-left, both-right}
@@ -40,8 +40,11 @@ pub record Turning (s n j p : ℕ) (old l : List ℕ) : Type 0 where
   pub is : p ≡ partner s j
   pub traded : Traded (cells s) (partner s) j old l
 
+pub turning-from : (s n : ℕ) (l : List ℕ) → isBoard s n ≡ true → length l ≡ n → Turning s n 0 0 l l
+turning-from s n l h e = record { board = h; long = e; is = first-partner (board-known s n h); traded = traded-start (cells s) (partner s) l (e ∙ board-cells s n h) }
+
 pub turning-start : (s : ℕ) (l : List ℕ) → isBoard s (length l) ≡ true → Turning s (length l) 0 0 l l
-turning-start s l h = record { board = h; long = refl; is = first-partner (board-known s (length l) h); traded = traded-start (cells s) (partner s) l (board-cells s (length l) h) }
+turning-start s l h = turning-from s (length l) l h refl
 
 module _ {s n j p : ℕ} {old l : List ℕ} (z : Turning s n j p old l) where
   pub turning-few : n ≤ 4096
@@ -55,6 +58,15 @@ module _ {s n j p : ℕ} {old l : List ℕ} (z : Turning s n j p old l) where
 
   pub turning-partner : j < n → p < n
   turning-partner h = omega (arith, z .is, board-cells s n (z .board), partner-in (board-known s n (z .board) .least) j (turning-inside h))
+
+  -- a cell whose partner comes later, and that partner, hold what they held
+  waits : (i : ℕ) → i < cells s → j ≤ i → j ≤ partner s i → getD l i 0 ≡ getD old i 0
+  waits i h u v = rw (le-ltb (min i (partner s i)) j (omega arith)) at (z .traded .trades .turned i h)
+
+  pub turning-waits : j < n → j < p → (getD l j 0 ≡ getD old j 0) × (getD l p 0 ≡ getD old p 0)
+  turning-waits h u =
+      let e : partner s p ≡ j = ap (partner s) (z .is) ∙ partner-twice (board-known s n (z .board) .least) j (turning-inside h) in
+      (waits j (turning-inside h) (omega arith) (omega (arith, z .is)), waits p (omega (arith, turning-partner h, board-cells s n (z .board))) (omega arith) (omega arith))
 
   pub turning-turn : (l′ : List ℕ) (q : ℕ) → j < n → q ≡ partner s (j + 1)
       → ((j < p) × (l′ ≡ set (set l j (getD l p 0)) p (getD l j 0))) ⊎ ((p ≤ j) × (l′ ≡ l)) → Turning s n (j + 1) q old l′

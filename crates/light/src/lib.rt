@@ -1,6 +1,4 @@
-// A swap of lanes: every cell and its partner, at the other end of the light, exchange what they hold. One function for each width.
-pub mod counts;
-
+// A swap: every cell and its partner, at the other end of the light, exchange what they hold, in a lane of words or in all six lanes.
 use array::cells::is_cells;
 use array::cells::is_side;
 use links::links;
@@ -10,7 +8,9 @@ ghost use Prim.Native.Nat.{ℕ, _+_, _≤_, _<_};
 ghost use lib.ListN.{length, getD};
 ghost use Rattle.array.specs.Cells.{isSide, groups, cells, cell, partner};
 ghost use Rattle.light.specs.Lane.{isBoard, swappedLane};
-ghost use Rattle.light.specs.Inside.{Listed, GroupTurned};
+ghost use Rattle.light.specs.Counts.{markCount};
+ghost use Rattle.light.specs.Lanes.{areLanes, onBoard, SwappedLanes};
+ghost use Rattle.light.specs.Inside.{Listed, GroupTurned, heldIn, lent, HasCell, TradedSlot};
 
 // A lane of n entries is one of a board.
 pub fn is_board(side: usize, n: usize) -> bool
@@ -20,6 +20,36 @@ pub fn is_board(side: usize, n: usize) -> bool
         return is_cells(side, n);
     }
     false
+}
+
+// Six lanes of these lengths are those of a board.
+pub fn are_lanes(
+    side: usize,
+    words: usize,
+    marks: usize,
+    aims: usize,
+    spare_words: usize,
+    spare_marks: usize,
+    spare_aims: usize,
+) -> bool
+    ensures { λ r. ⌜ r ≡ areLanes side words marks aims «spare_words» «spare_marks» «spare_aims» ⌝ }
+{
+    if !is_board(side, words) {
+        return false;
+    }
+    if !is_board(side, marks) {
+        return false;
+    }
+    if !is_board(side, aims) {
+        return false;
+    }
+    if !is_board(side, spare_words) {
+        return false;
+    }
+    if !is_board(side, spare_marks) {
+        return false;
+    }
+    is_board(side, spare_aims)
 }
 
 fn wide(x: u16) -> usize
@@ -92,44 +122,6 @@ fn trade_words(side: usize, list: &[u16], lane: &mut [u32])
     }
 }
 
-fn trade_marks(side: usize, list: &[u16], lane: &mut [u8])
-    requires { ⌜ isBoard side (length (now lane)) ≡ true ⌝ }
-    requires { ⌜ Listed side (now list) ⌝ }
-    ensures { λ _. ⌜ now (lane .exit) ≡ swappedLane side (now (lane .entry)) ⌝ }
-{
-    let n = lane.len();
-    let mut p: usize = 0;
-    let mut j: usize = 0;
-    while j < n {
-        if j < p {
-            let mark = lane[j];
-            lane[j] = lane[p];
-            lane[p] = mark;
-        }
-        p = next(side, list, j, p);
-        j += 1;
-    }
-}
-
-fn trade_aims(side: usize, list: &[u16], lane: &mut [u16])
-    requires { ⌜ isBoard side (length (now lane)) ≡ true ⌝ }
-    requires { ⌜ Listed side (now list) ⌝ }
-    ensures { λ _. ⌜ now (lane .exit) ≡ swappedLane side (now (lane .entry)) ⌝ }
-{
-    let n = lane.len();
-    let mut p: usize = 0;
-    let mut j: usize = 0;
-    while j < n {
-        if j < p {
-            let aim = lane[j];
-            lane[j] = lane[p];
-            lane[p] = aim;
-        }
-        p = next(side, list, j, p);
-        j += 1;
-    }
-}
-
 // A swap; side 8 goes by the board's link list, and what is no lane of a board stays.
 pub fn swap_words(side: usize, lane: &mut [u32])
     ensures { λ _. ⌜ now (lane .exit) ≡ swappedLane side (now (lane .entry)) ⌝ }
@@ -146,32 +138,139 @@ pub fn swap_words(side: usize, lane: &mut [u32])
     trade_words(side, &none[..0], lane);
 }
 
-pub fn swap_marks(side: usize, lane: &mut [u8])
-    ensures { λ _. ⌜ now (lane .exit) ≡ swappedLane side (now (lane .entry)) ⌝ }
+fn one(mark: u8) -> usize
+    ensures { λ r. ⌜ (r ≡ markCount mark) × (r ≤ 1) ⌝ }
 {
-    if !is_board(side, lane.len()) {
-        return;
-    }
-    if side == 8 {
-        let list = links();
-        trade_marks(side, &list[..], lane);
-        return;
-    }
-    let none = [0u16; 1];
-    trade_marks(side, &none[..0], lane);
+    if mark == 0 { 0 } else { 1 }
 }
 
-pub fn swap_aims(side: usize, lane: &mut [u16])
-    ensures { λ _. ⌜ now (lane .exit) ≡ swappedLane side (now (lane .entry)) ⌝ }
+// How many records cells j and p hold.
+fn held(j: usize, p: usize, marks: &[u8], spare_marks: &[u8]) -> usize
+    requires { ⌜ (j < length (now marks)) × (j < length (now «spare_marks»)) ⌝ }
+    requires { ⌜ (p < length (now marks)) × (p < length (now «spare_marks»)) ⌝ }
+    ensures { λ r. ⌜ (r ≡ heldIn (now (marks .entry)) (now («spare_marks» .entry)) j + heldIn (now (marks .entry)) (now («spare_marks» .entry)) p) × (r ≤ 4) ⌝ }
 {
-    if !is_board(side, lane.len()) {
-        return;
+    one(marks[j]) + one(spare_marks[j]) + (one(marks[p]) + one(spare_marks[p]))
+}
+
+// Cells j and p trade what they hold in one slot: its word, its mark and its aim.
+fn trade_slot(j: usize, p: usize, words: &mut [u32], marks: &mut [u8], aims: &mut [u16])
+    requires { ⌜ (j < p) × HasCell p words marks aims ⌝ }
+    ensures { λ _. ⌜ TradedSlot j p words marks aims ⌝ }
+{
+    let word = words[j];
+    words[j] = words[p];
+    words[p] = word;
+    let mark = marks[j];
+    marks[j] = marks[p];
+    marks[p] = mark;
+    let aim = aims[j];
+    aims[j] = aims[p];
+    aims[p] = aim;
+}
+
+// And in both.
+fn trade_cells(
+    j: usize,
+    p: usize,
+    words: &mut [u32],
+    marks: &mut [u8],
+    aims: &mut [u16],
+    spare_words: &mut [u32],
+    spare_marks: &mut [u8],
+    spare_aims: &mut [u16],
+)
+    requires { ⌜ (j < p) × (HasCell p words marks aims × HasCell p «spare_words» «spare_marks» «spare_aims») ⌝ }
+    ensures { λ _. ⌜ TradedSlot j p words marks aims × TradedSlot j p «spare_words» «spare_marks» «spare_aims» ⌝ }
+{
+    trade_slot(j, p, words, marks, aims);
+    trade_slot(j, p, spare_words, spare_marks, spare_aims);
+}
+
+// Each cell trades with its partner, where that comes later; how many records are in another cell.
+fn trade_lanes(
+    side: usize,
+    list: &[u16],
+    words: &mut [u32],
+    marks: &mut [u8],
+    aims: &mut [u16],
+    spare_words: &mut [u32],
+    spare_marks: &mut [u8],
+    spare_aims: &mut [u16],
+) -> usize
+    requires { ⌜ onBoard side (lent words marks aims «spare_words» «spare_marks» «spare_aims») ≡ true ⌝ }
+    requires { ⌜ Listed side (now list) ⌝ }
+    ensures { λ r. ⌜ SwappedLanes side words marks aims «spare_words» «spare_marks» «spare_aims» r ⌝ }
+{
+    let n = words.len();
+    let mut moved: usize = 0;
+    let mut p: usize = 0;
+    let mut j: usize = 0;
+    while j < n {
+        if j < p {
+            moved += held(j, p, marks, spare_marks);
+            trade_cells(
+                j,
+                p,
+                words,
+                marks,
+                aims,
+                spare_words,
+                spare_marks,
+                spare_aims,
+            );
+        }
+        p = next(side, list, j, p);
+        j += 1;
+    }
+    moved
+}
+
+// All six lanes swap; how many records are in another cell. Lanes that are not a board's stay.
+pub fn swap_lanes(
+    side: usize,
+    words: &mut [u32],
+    marks: &mut [u8],
+    aims: &mut [u16],
+    spare_words: &mut [u32],
+    spare_marks: &mut [u8],
+    spare_aims: &mut [u16],
+) -> usize
+    ensures { λ r. ⌜ SwappedLanes side words marks aims «spare_words» «spare_marks» «spare_aims» r ⌝ }
+{
+    if !are_lanes(
+        side,
+        words.len(),
+        marks.len(),
+        aims.len(),
+        spare_words.len(),
+        spare_marks.len(),
+        spare_aims.len(),
+    ) {
+        return 0;
     }
     if side == 8 {
         let list = links();
-        trade_aims(side, &list[..], lane);
-        return;
+        return trade_lanes(
+            side,
+            &list[..],
+            words,
+            marks,
+            aims,
+            spare_words,
+            spare_marks,
+            spare_aims,
+        );
     }
     let none = [0u16; 1];
-    trade_aims(side, &none[..0], lane);
+    trade_lanes(
+        side,
+        &none[..0],
+        words,
+        marks,
+        aims,
+        spare_words,
+        spare_marks,
+        spare_aims,
+    )
 }

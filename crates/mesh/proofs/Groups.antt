@@ -19,7 +19,8 @@ use Rattle.array.specs.Cells.{groups, cells, group}
 use Rattle.array.proofs.Board.{group-of}
 use Rattle.slots.specs.declared.Rec.{Rec}
 use Rattle.slots.specs.declared.Cell.{Cell}
-use Rattle.slots.specs.Lanes.{Slice, Lent}
+use Rattle.light.specs.Lanes.{Lent}
+use Rattle.slots.specs.Lanes.{Slice}
 use Rattle.mesh.specs.declared.lines.Rule.{Rule}
 use Rattle.mesh.specs.Lines.{headOf, leaves, distanceOf, ranLine, wentOf, wentFrom}
 use Rattle.mesh.specs.Mesh.{spotOf, lineCell, ranOn, wentIn}

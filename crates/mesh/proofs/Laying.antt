@@ -19,7 +19,7 @@ use Rattle.laws.proofs.Setting.{getD-stored}
 use Rattle.slots.specs.declared.Rec.{Rec}
 use Rattle.slots.specs.declared.Cell.{Cell}
 use Rattle.slots.specs.Cells.{nothing, empty, joined, only}
-use Rattle.slots.specs.Lanes.{Lent}
+use Rattle.light.specs.Lanes.{Lent}
 use Rattle.slots.proofs.Stored.{joined-none}
 use Rattle.mesh.specs.declared.lines.Rule.{Rule}
 use Rattle.mesh.specs.Lines.{headOf, endOf, leaves, goersOf, stayersOf, landed, laid, ranLine, distanceOf, wentOf, wentFrom}

@@ -13,7 +13,7 @@ use Rattle.array.specs.declared.moves.Way.the-variants.{Right, Left, Up, Down}
 use Rattle.array.specs.Cells.{isSide, groups}
 use Rattle.array.proofs.Board.{Side, side-known}
 use Rattle.slots.specs.declared.Cell.{Cell}
-use Rattle.slots.specs.Lanes.{Lent}
+use Rattle.light.specs.Lanes.{Lent}
 use Rattle.mesh.specs.declared.lines.Rule.{Rule}
 use Rattle.mesh.specs.declared.Leg.{Leg}
 use Rattle.mesh.specs.Mesh.{strideOf, unitOf, ruleOf, RanLanes}

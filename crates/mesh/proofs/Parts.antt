@@ -11,7 +11,7 @@ use Rattle.laws.proofs.Sums.{sum-cong}
 use Rattle.array.specs.Cells.{groups}
 use Rattle.slots.specs.declared.Cell.{Cell}
 use Rattle.slots.specs.Cells.{cellAt, Sized}
-use Rattle.slots.specs.Lanes.{Lent}
+use Rattle.light.specs.Lanes.{Lent}
 use Rattle.slots.proofs.Stored.{cell-ext}
 use Rattle.mesh.specs.declared.lines.Rule.{Rule}
 use Rattle.mesh.specs.Lines.{wentFrom}

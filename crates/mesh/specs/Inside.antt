@@ -12,7 +12,8 @@ use Rattle.array.specs.Cells.{isSide, groups, cells}
 use Rattle.slots.specs.declared.Rec.{Rec}
 use Rattle.slots.specs.declared.Cell.{Cell}
 use Rattle.slots.specs.Cells.{empty, joined}
-use Rattle.slots.specs.Lanes.{Slice, Lent}
+use Rattle.light.specs.Lanes.{Lent}
+use Rattle.slots.specs.Lanes.{Slice}
 use Rattle.mesh.specs.declared.lines.Rule.{Rule}
 use Rattle.mesh.specs.Lines.{headOf, endOf, leaves, goersOf, stayersOf, ranLine, distanceOf, wentFrom}
 use Rattle.mesh.specs.Mesh.{spotOf, ranOn, wentIn}

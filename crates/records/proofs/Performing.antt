@@ -20,9 +20,10 @@ use Rattle.lists.specs.declared.Trip.the-variants.{Concentrate, Distribute}
 use Rattle.lists.specs.Lists.{runsOf}
 use Rattle.travel.proofs.Listed.{timesOf}
 use Rattle.travel.proofs.Collide.{at-the-end}
+use Rattle.light.specs.Lanes.{areLanes}
 use Rattle.slots.specs.declared.Rec.{Rec}
 use Rattle.slots.specs.declared.Cell.{Cell}
-use Rattle.slots.specs.Cells.{cellAt, Sized, areLanes, recordIn, alone, empty}
+use Rattle.slots.specs.Cells.{cellAt, Sized, recordIn, alone, empty}
 use Rattle.slots.proofs.Boards.{lanes-are}
 use Rattle.slots.proofs.Stored.{cell-ext}
 use Rattle.mover.specs.Runs.{Ran}

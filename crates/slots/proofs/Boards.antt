@@ -5,11 +5,12 @@ use mathlib.Core.Bool.{true}
 use mathlib.Core.List.{List}
 use borrow.Author.Tests.{eq-eqb}
 use lib.ListN.{length}
-use Rattle.laws.proofs.Bools.{both-left, both-right}
 use Rattle.array.specs.Cells.{isSide, cells}
 use Rattle.light.specs.Lane.{isBoard}
+use Rattle.light.specs.Lanes.{areLanes}
+use Rattle.light.proofs.Boards.{boards-known}
 use Rattle.light.proofs.Turning.{board-side, board-cells}
-use Rattle.slots.specs.Cells.{Sized, areLanes}
+use Rattle.slots.specs.Cells.{Sized}
 
 -- what is known of lanes that are those of a board
 pub record Lanes (s : ℕ) (w m a w₂ m₂ a₂ : List ℕ) : Type 0 where
@@ -18,19 +19,16 @@ pub record Lanes (s : ℕ) (w m a w₂ m₂ a₂ : List ℕ) : Type 0 where
 
 pub lanes-known : (s : ℕ) (w m a w₂ m₂ a₂ : List ℕ) → areLanes s (length w) (length m) (length a) (length w₂) (length m₂) (length a₂) ≡ true → Lanes s w m a w₂ m₂ a₂
 lanes-known s w m a w₂ m₂ a₂ h =
-    let h₁ = both-right (isBoard s (length w)) _ h in
-    let h₂ = both-right (isBoard s (length m)) _ h₁ in
-    let h₃ = both-right (isBoard s (length a)) _ h₂ in
-    let h₄ = both-right (isBoard s (length w₂)) _ h₃ in
+    let z = boards-known s (length w) (length m) (length a) (length w₂) (length m₂) (length a₂) h in
     record {
-      side = board-side s (length w) (both-left (isBoard s (length w)) _ h);
+      side = board-side s (length w) (z .words);
       sized = record {
-        words = board-cells s (length w) (both-left (isBoard s (length w)) _ h);
-        marks = board-cells s (length m) (both-left (isBoard s (length m)) _ h₁);
-        aims = board-cells s (length a) (both-left (isBoard s (length a)) _ h₂);
-        words2 = board-cells s (length w₂) (both-left (isBoard s (length w₂)) _ h₃);
-        marks2 = board-cells s (length m₂) (both-left (isBoard s (length m₂)) (isBoard s (length a₂)) h₄);
-        aims2 = board-cells s (length a₂) (both-right (isBoard s (length m₂)) (isBoard s (length a₂)) h₄);
+        words = board-cells s (length w) (z .words);
+        marks = board-cells s (length m) (z .marks);
+        aims = board-cells s (length a) (z .aims);
+        words2 = board-cells s (length w₂) (z .words2);
+        marks2 = board-cells s (length m₂) (z .marks2);
+        aims2 = board-cells s (length a₂) (z .aims2);
       };
     }
 

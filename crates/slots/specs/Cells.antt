@@ -1,11 +1,10 @@
 -- What a cell holds: a record in front, and a second one in the spare slot. A slot without a record holds 0 in every lane.
 use Prim.Native.Nat.{ℕ, _+_}
-use mathlib.Core.Bool.{Bool, true, false, cond, _&&_}
+use mathlib.Core.Bool.{Bool, true, false, cond}
 use mathlib.Core.Path.{_≡_}
 use mathlib.Core.List.{List}
 use lib.ListN.{length, getD}
 use lib.Dec.{ltb, eqb}
-use Rattle.light.specs.Lane.{isBoard}
 use Rattle.slots.specs.declared.Rec.{Rec}
 use Rattle.slots.specs.declared.Cell.{Cell}
 
@@ -50,10 +49,6 @@ pub record Sized (n : ℕ) (w m a w₂ m₂ a₂ : List ℕ) : Type 0 where
   pub words2 : length w₂ ≡ n
   pub marks2 : length m₂ ≡ n
   pub aims2 : length a₂ ≡ n
-
--- six lanes are those of a board
-abbrev pub areLanes : ℕ → ℕ → ℕ → ℕ → ℕ → ℕ → ℕ → Bool
-areLanes s a b c d e f = isBoard s a && (isBoard s b && (isBoard s c && (isBoard s d && (isBoard s e && isBoard s f))))
 
 -- how many records a slot and a cell hold
 abbrev pub countOf : Rec → ℕ

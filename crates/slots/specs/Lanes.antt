@@ -1,17 +1,14 @@
 -- Six lanes that a function is lent, in its contract by their names alone: the cells that they held, and the cells that they hold.
 use Prim.Native.Nat.{ℕ}
 use mathlib.Core.List.{List}
-use denote.Triple.Both.{Both}
 use denote.Ref.{RefT, now}
+use Rattle.light.specs.Lanes.{Lent}
 use Rattle.slots.specs.declared.Cell.{Cell}
 use Rattle.slots.specs.Cells.{cellAt, Sized}
 
--- a slice of numbers, and one that was lent, at the entry and at the exit
+-- a slice of numbers that is lent
 abbrev pub Slice : Type 0
 Slice = RefT (List ℕ)
-
-abbrev pub Lent : Type 0
-Lent = Both Slice Slice
 
 -- what cell i held before, and what it holds
 abbrev pub cellsBefore : Lent → Lent → Lent → Lent → Lent → Lent → ℕ → Cell

@@ -1,8 +1,7 @@
-// What a cell holds: a record, and a second one in the spare slot; and the lengths of the six lanes that hold it.
-use light::is_board;
+// What a cell holds: a record, and a second one in the spare slot.
 ghost use mathlib.Core.Path.{_≡_};
 ghost use mathlib.Core.Bool.{true};
-ghost use Rattle.slots.specs.Cells.{areLanes, nothing as nothingOf, empty as emptyOf, alone as aloneOf, joined as joinedOf, only as onlyOf};
+ghost use Rattle.slots.specs.Cells.{nothing as nothingOf, empty as emptyOf, alone as aloneOf, joined as joinedOf, only as onlyOf};
 
 // A record: its word, its mark (1, or 0 where there is none) and its aim.
 pub struct Rec {
@@ -15,36 +14,6 @@ pub struct Rec {
 pub struct Cell {
     pub front: Rec,
     pub spare: Rec,
-}
-
-// Six lanes of these lengths are those of a board.
-pub fn are_lanes(
-    side: usize,
-    words: usize,
-    marks: usize,
-    aims: usize,
-    spare_words: usize,
-    spare_marks: usize,
-    spare_aims: usize,
-) -> bool
-    ensures { λ r. ⌜ r ≡ areLanes side words marks aims «spare_words» «spare_marks» «spare_aims» ⌝ }
-{
-    if !is_board(side, words) {
-        return false;
-    }
-    if !is_board(side, marks) {
-        return false;
-    }
-    if !is_board(side, aims) {
-        return false;
-    }
-    if !is_board(side, spare_words) {
-        return false;
-    }
-    if !is_board(side, spare_marks) {
-        return false;
-    }
-    is_board(side, spare_aims)
 }
 
 fn nothing() -> Rec

@@ -7,12 +7,6 @@ use Rattle.mesh.proofs.Legs.{period-few, ruled, no-counts, ran-none, ra
 use borrow.Author.Needs.{needs}
 use Rattle.mesh.proofs.run_all.Statement.{statement}
 use Rattle.mesh.proofs.run_all.Tie as tie
-use Rattle.mesh.proofs.run_all.Reads as reads
-use Rattle.mesh.proofs.run_all.Lts as lts
-use Rattle.mesh.proofs.rule_of.Reads as rule-of-reads
-use Rattle.mesh.proofs.run_groups.Reads as run-groups-reads
-use Rattle.mesh.proofs.share.Reads as share-reads
-use Rattle.slots.proofs.are_lanes.Reads as are-lanes-reads
 
 are-lanes-requires : tie.Need-are-lanes-requires
 are-lanes-requires c κs = search needs

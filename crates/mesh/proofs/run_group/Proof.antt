@@ -10,10 +10,6 @@ use Rattle.mesh.proofs.Ruling.{known}
 use Rattle.mesh.proofs.Groups.{Lined, lined-start, lined-step, lined-few, lined-end, line-lies}
 use Rattle.mesh.proofs.run_group.Statement.{statement}
 use Rattle.mesh.proofs.run_group.Tie as tie
-use Rattle.mesh.proofs.run_group.Reads as reads
-use Rattle.mesh.proofs.run_group.Lts as lts
-use Rattle.mesh.proofs.line_step.Reads as line-step-reads
-use Rattle.mesh.proofs.lines.run_line.Reads as run-line-reads
 
 abbrev Inv-loop : tie.InvT-loop
 Inv-loop t share counts₀ words₀ marks₀ aims₀ spare-words₀ spare-marks₀ spare-aims₀ n step l₀ counts words marks aims spare-words spare-marks spare-aims l =

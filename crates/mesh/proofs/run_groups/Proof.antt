@@ -7,9 +7,6 @@ use Rattle.mesh.proofs.Ruling.{known}
 use Rattle.mesh.proofs.Groups.{Ranged, ranged-start, ranged-step, ranged-few, ranged-end, part-fits}
 use Rattle.mesh.proofs.run_groups.Statement.{statement}
 use Rattle.mesh.proofs.run_groups.Tie as tie
-use Rattle.mesh.proofs.run_groups.Reads as reads
-use Rattle.mesh.proofs.run_groups.Lts as lts
-use Rattle.mesh.proofs.run_part.Reads as run-part-reads
 
 abbrev Inv-loop : tie.InvT-loop
 Inv-loop t share counts₀ words₀ marks₀ aims₀ spare-words₀ spare-marks₀ spare-aims₀ groups base₀ g₀ counts words marks aims spare-words spare-marks spare-aims base g =

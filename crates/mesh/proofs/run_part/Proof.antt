@@ -8,9 +8,6 @@ use Rattle.mesh.proofs.Parts.{part-sized, part-ran}
 use borrow.Author.Needs.{needs}
 use Rattle.mesh.proofs.run_part.Statement.{statement}
 use Rattle.mesh.proofs.run_part.Tie as tie
-use Rattle.mesh.proofs.run_part.Reads as reads
-use Rattle.mesh.proofs.run_part.Lts as lts
-use Rattle.mesh.proofs.run_group.Reads as run-group-reads
 
 mul-end : tie.Need-mul-end
 mul-end c = search needs

@@ -4,11 +4,6 @@ use Rattle.mesh.proofs.Laying.{ran-still, ran-moved}
 use borrow.Author.Needs.{needs}
 use Rattle.mesh.proofs.lines.run_line.Statement.{statement}
 use Rattle.mesh.proofs.lines.run_line.Tie as tie
-use Rattle.mesh.proofs.lines.run_line.Reads as reads
-use Rattle.mesh.proofs.lines.run_line.Lts as lts
-use Rattle.mesh.proofs.lines.first_goer.Reads as first-goer-reads
-use Rattle.mesh.proofs.lines.lift.Reads as lift-reads
-use Rattle.mesh.proofs.lines.put_line.Reads as put-line-reads
 
 first-goer-requires : tie.Need-first-goer-requires
 first-goer-requires c κs = search needs

@@ -1,8 +1,8 @@
--- `light::counts::one` meets its contract: by the mark.
+-- `light::one` meets its contract: by the mark.
 use native.Mathlib.Omega.{arith}
 use borrow.Author.Tests.{eq-eqb, ne-eqb}
-use Rattle.light.proofs.counts.one.Statement.{statement}
-use Rattle.light.proofs.counts.one.Tie as tie
+use Rattle.light.proofs.one.Statement.{statement}
+use Rattle.light.proofs.one.Tie as tie
 
 returns : tie.Need-returns
 returns c = (rw (eq-eqb _ _ (c .if1 .taken)), omega arith)

@@ -1,9 +1,9 @@
--- `slots::are_lanes` meets its contract: lane after lane, each as long as the board.
+-- `light::are_lanes` meets its contract: lane after lane, each as long as the board.
 use mathlib.Core.Path.{sym, _∙_}
 use borrow.Author.Tests.{not-true, not-false}
 use borrow.Author.Needs.{needs}
-use Rattle.slots.proofs.are_lanes.Statement.{statement}
-use Rattle.slots.proofs.are_lanes.Tie as tie
+use Rattle.light.proofs.are_lanes.Statement.{statement}
+use Rattle.light.proofs.are_lanes.Tie as tie
 
 is-board-requires : tie.Need-is-board-requires
 is-board-requires c κs = search needs
