@@ -29,7 +29,7 @@ sum-two f (suc n) i j l h g =
     (λ d. omega (arith, sum-two f n i j l (omega (arith, d)) (λ k u. g k (omega arith)), g n (omega arith) (λ e. omega (arith, d)) (λ e. d (sym e))))
     (same? j n)
 
-sum-plus : (f g : ℕ → ℕ) (n : ℕ) → sum n (λ i. f i + g i) ≡ sum n f + sum n g
+pub sum-plus : (f g : ℕ → ℕ) (n : ℕ) → sum n (λ i. f i + g i) ≡ sum n f + sum n g
 sum-plus f g zero = refl
 sum-plus f g (suc n) = omega (arith, sum-plus f g n)
 

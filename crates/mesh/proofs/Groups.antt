@@ -38,7 +38,7 @@ went-few t d p x = go (leaves t p x) (eqb d (distanceOf t p (headOf t x)))
     go true false = omega arith
     go false b = omega arith
 
-cell-few : (t : Rule) (d p : ℕ) (c : Cell) → wentFrom t d p c ≤ 2
+pub cell-few : (t : Rule) (d p : ℕ) (c : Cell) → wentFrom t d p c ≤ 2
 cell-few t d p c = omega (arith, went-few t d p (c .front), went-few t d p (c .spare))
 
 -- the lines below l have run, and the others are as they were

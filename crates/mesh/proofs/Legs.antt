@@ -10,14 +10,16 @@ use lib.ListN.{getD, replicate}
 use denote.Ref.{now}
 use Rattle.array.specs.declared.moves.Way.{Way}
 use Rattle.array.specs.declared.moves.Way.the-variants.{Right, Left, Up, Down}
-use Rattle.array.specs.Cells.{isSide, groups}
-use Rattle.array.proofs.Board.{Side, side-known}
+use Rattle.array.specs.Cells.{isSide, groups, cells, group, place}
+use Rattle.array.proofs.Board.{Side, side-known, cell-of, place-in, group-in}
 use Rattle.slots.specs.declared.Cell.{Cell}
 use Rattle.light.specs.Lanes.{Lent}
 use Rattle.mesh.specs.declared.lines.Rule.{Rule}
 use Rattle.mesh.specs.declared.Leg.{Leg}
-use Rattle.mesh.specs.Mesh.{strideOf, unitOf, ruleOf, RanLanes}
+use Rattle.mesh.specs.Mesh.{strideOf, unitOf, ruleOf, ranOn, RanLanes}
 use Rattle.mesh.specs.Inside.{shareOf, Ruled, Strided, RanGroups}
+use Rattle.mesh.proofs.Spots.{ran-part}
+use Rattle.mesh.proofs.Groups.{part-fits}
 
 -- the digits of an aim are those of a number below 4,096
 module _ {s : ℕ} (k : Side s) where
@@ -64,6 +66,21 @@ ruled l {t} {share} side e f =
       },
       strided (l .side) (l .way),
     )
+
+-- a run looks at the cells of the board only
+pub ran-same : (l : Leg) → 0 < l .side → (T U : ℕ → Cell) → ((i : ℕ) → i < cells (l .side) → T i ≡ U i) → (i : ℕ) → i < cells (l .side) → ranOn (ruleOf l) T i ≡ ranOn (ruleOf l) U i
+ran-same l pos T U e i h =
+    let N = groups (l .side) in
+    let g = group (l .side) i in
+    let p = place (l .side) i in
+    let z = strided (l .side) (l .way) in
+    let p< : p < N = place-in pos i in
+    let fits : g * N + N ≤ N * N = part-fits N g (g * N) (group-in pos i h) refl in
+    let is : g * N + p ≡ i = cell-of (l .side) i in
+    ap (ranOn (ruleOf l) T) (sym is)
+    ∙ sym (ran-part (ruleOf l) pos z g (λ k. T (g * N + k)) T (λ k u. refl) p p<)
+    ∙ ran-part (ruleOf l) pos z g (λ k. T (g * N + k)) U (λ k u. e (g * N + k) (omega (arith, fits))) p p<
+    ∙ ap (ranOn (ruleOf l) U) is
 
 -- counts of nothing
 pub no-counts : (n d : ℕ) → _≡_ {A = ℕ} (getD (replicate n 0) d 0) 0

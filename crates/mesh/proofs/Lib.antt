@@ -1,3 +1,4 @@
+pub mod Counting
 pub mod Fractions
 pub mod Groups
 pub mod Laying

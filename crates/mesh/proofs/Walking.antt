@@ -4,11 +4,11 @@ use mathlib.Core.Path.{_≡_, refl, sym, ap, _∙_}
 use mathlib.Core.Logic.{⊎-elim}
 use mathlib.Core.Bool.{Bool, true, false, cond, not, _&&_}
 use native.Mathlib.Omega.{arith}
-use borrow.Author.Tests.{lt-ltb, le-ltb, eq-eqb, ne-eqb}
+use borrow.Author.Tests.{lt-ltb, le-ltb, ltb-true, eq-eqb, ne-eqb}
 use lib.Dec.{ltb, eqb}
 use Rattle.laws.proofs.Deciding.{apart}
 use Rattle.mesh.specs.declared.lines.Rule.{Rule}
-use Rattle.mesh.specs.Lines.{waitOf, stepOf, reach, distanceOf}
+use Rattle.mesh.specs.Lines.{waitOf, stepOf, reach, distanceOf, goesIn}
 use Rattle.mesh.specs.Inside.{goneOf}
 
 -- one move of a record in cell x that heads for h and waits w off its place
@@ -52,6 +52,22 @@ goes-on false n k d h l = omega arith
 rests : (late : Bool) (n k d : ℕ) → k < n → d ≤ gone late n k d + wait late n k → gone late n (suc k) d ≡ gone late n k d
 rests true n k d h l = omega arith
 rests false n k d h l = omega arith
+
+on-goes : (late : Bool) (n k d : ℕ) → k < n → gone late n k d + wait late n k < d → goesIn late n k d ≡ true
+on-goes true n k d h l = lt-ltb (n - 1 - k) d (omega arith)
+on-goes false n k d h l = lt-ltb k d (omega arith)
+
+rest-stays : (late : Bool) (n k d : ℕ) → k < n → d ≤ gone late n k d + wait late n k → goesIn late n k d ≡ false
+rest-stays true n k d h l = le-ltb (n - 1 - k) d (omega arith)
+rest-stays false n k d h l = le-ltb k d (omega arith)
+
+-- what goes in one of the moves that are made is gone then
+pub gone-some : (t : Rule) (k d : ℕ) → k < t .made → t .made ≤ t .times → goesIn (t .late) (t .times) k d ≡ true → 0 < goneOf t d
+gone-some t k d h within = go (t .late)
+  where
+    go : (b : Bool) → goesIn b (t .times) k d ≡ true → 0 < gone b (t .times) (t .made) d
+    go true e = omega (arith, ltb-true (t .times - 1 - k) d e)
+    go false e = omega (arith, ltb-true k d e)
 
 module _ (t : Rule) (h p : ℕ) where
   abbrev far : ℕ
@@ -121,6 +137,37 @@ module _ (t : Rule) (h p : ℕ) where
   unfolding reach
   reach-down l zero u = omega (arith, first-none)
   reach-down l (suc k) u = ap (λ (x : ℕ). step (t .up) (t .down) (w k) h x) (reach-down l k (omega arith)) ∙ downward l k (omega arith)
+
+  -- in which moves it goes
+  pub goes-in : (k : ℕ) → k < t .times → eqb (reach t h p (suc k)) (reach t h p k) ≡ not (goesIn (t .late) (t .times) k (distanceOf t p h))
+  goes-in k u =
+      ⊎-elim
+      (λ i. ne-eqb (reach t h p (suc k)) (reach t h p k) (moved i) ∙ sym (ap not (on-goes (t .late) (t .times) k far u i)))
+      (λ i. eq-eqb (reach t h p (suc k)) (reach t h p k) (stayed i) ∙ sym (ap not (rest-stays (t .late) (t .times) k far u i)))
+      (apart (made k + w k) far)
+    where
+      far-below : h ≤ p → far ≤ p
+      far-below l = rw (down-far l) (go (t .down))
+        where
+          go : (b : Bool) → cond b (p - h) 0 ≤ p
+          go true = omega arith
+          go false = omega arith
+
+      moved : made k + w k < far → reach t h p (suc k) ≡ reach t h p k → ⊥
+      moved i e =
+          let g = goes-on (t .late) (t .times) k far u i in
+          ⊎-elim
+          (λ l. omega (arith, reach-up l (suc k) (omega arith), reach-up l k (omega arith), g, e))
+          (λ l. omega (arith, reach-down l (suc k) (omega arith), reach-down l k (omega arith), g, e, gone-most (t .late) (t .times) (suc k) far (omega arith), far-below l))
+          (apart p h)
+
+      stayed : far ≤ made k + w k → reach t h p (suc k) ≡ reach t h p k
+      stayed i =
+          let g = rests (t .late) (t .times) k far u i in
+          ⊎-elim
+          (λ l. omega (arith, reach-up l (suc k) (omega arith), reach-up l k (omega arith), g))
+          (λ l. omega (arith, reach-down l (suc k) (omega arith), reach-down l k (omega arith), g))
+          (apart p h)
 
   module _ (within : t .made ≤ t .times) where
     pub gone-far : goneOf t (distanceOf t p h) ≤ distanceOf t p h

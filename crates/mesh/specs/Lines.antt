@@ -69,3 +69,7 @@ wentOf t d p x = cond (leaves t p x) (cond (eqb d (distanceOf t p (headOf t x)))
 
 abbrev pub wentFrom : Rule → ℕ → ℕ → Cell → ℕ
 wentFrom t d p c = wentOf t d p (c .front) + wentOf t d p (c .spare)
+
+-- whether a record goes in move j of a run of so many that had d cells to go when the run began
+abbrev pub goesIn : Bool → ℕ → ℕ → ℕ → Bool
+goesIn late times j d = cond late (ltb (times - 1 - j) d) (ltb j d)

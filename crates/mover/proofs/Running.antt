@@ -1,0 +1,210 @@
+-- A list of runs as it is made: what is left of the list leads from the cells and the log as they are to those of the whole.
+use Prim.Native.Nat.{ℕ, zero, suc, _+_, _-_, _*_, _≤_, _<_, min}
+use mathlib.Core.Path.{_≡_, refl, sym, ap, ap₂, _∙_}
+use mathlib.Core.Bool.{Bool, true, false, cond}
+use mathlib.Core.List.{List, [], _∷_, _++_}
+use native.Mathlib.Nat.{sub-zero}
+use native.Mathlib.Numerals.{add-one}
+use native.Mathlib.Omega.{arith}
+use lib.ListN.{length, getD, set, drop, drop-of-length-le}
+use lib.Seq.{sets, drop-cons}
+use Rattle.laws.specs.Sums.{sum}
+use Rattle.laws.specs.Tables.{entries}
+use Rattle.laws.proofs.Sums.{sum-cong}
+use Rattle.laws.proofs.Tables.{length-entries, entry-at, entries-cong}
+use Rattle.laws.proofs.Stores.{Storing, storing-start, storing-next, storing-all, sets-append}
+use Rattle.array.specs.declared.moves.Way.{Way}
+use Rattle.array.specs.declared.moves.Move.{Move}
+use Rattle.array.specs.declared.moves.Move.the-variants.{Swap, Electronic}
+use Rattle.array.specs.Cells.{isSide, cells, partner}
+use Rattle.array.proofs.Board.{side-known, partner-in}
+use Rattle.logs.specs.declared.Run.{Run}
+use Rattle.logs.specs.Runs.{swapsIn}
+use Rattle.lists.specs.declared.Trip.{Trip}
+use Rattle.slots.specs.declared.Cell.{Cell}
+use Rattle.mesh.specs.declared.Leg.{Leg}
+use Rattle.mesh.specs.Lines.{goesAt, goesIn}
+use Rattle.mesh.specs.Mesh.{ruleOf, spotOf, ranOn, goneIn, wentIn, RanLanes}
+use Rattle.mesh.proofs.Legs.{ran-same}
+use Rattle.mesh.proofs.Counting.{gone-by-went, gone-made, gone-few, went-few}
+use Rattle.mover.specs.Runs.{legOf, swapped, ranBy, goneBy, madeOf, after, movedLog, Ran}
+use Rattle.mover.specs.Inside.{movers, Few, RanRun, RanLeg}
+use Rattle.mover.proofs.Swapping.{leaving, leaving-same, swaps-same}
+
+-- counts put into the log, from a place on
+pub record Logging (f : ℕ → ℕ) (n from j : ℕ) (old log : List ℕ) : Type 0 where
+  pub upto : j ≤ n
+  pub stored : Storing old (entries f 0 n) from (from + j) log
+
+pub logging-start : (f : ℕ → ℕ) (n from : ℕ) (old : List ℕ) → Logging f n from 0 old old
+logging-start f n from old = let e : from + 0 ≡ from = omega arith in record { upto = omega arith; stored = rw e (storing-start old (entries f 0 n) from) }
+
+pub logging-next : (f : ℕ → ℕ) {n from j count : ℕ} {old log : List ℕ} → j < n → count ≡ f j → Logging f n from j old log → Logging f n from (j + 1) old (set log (from + j) count)
+logging-next f {n} {from} {j} {count} {old} {log} h e z =
+    let at : from + j - from ≡ j = omega arith in
+    let on : from + (j + 1) ≡ from + j + 1 = omega arith in
+    record {
+      upto = omega arith;
+      stored = rw on (storing-next old (entries f 0 n) from count 0 (rw (at, length-entries f 0 n) h) (rw at (entry-at f n j 0 h ∙ sym e)) (z .stored));
+    }
+
+pub logging-end : (f : ℕ → ℕ) {n from j : ℕ} {old log : List ℕ} → n ≤ j → Logging f n from j old log → log ≡ sets old from (entries f 0 n)
+logging-end f {n} {from} {j} {old} h z = let at : from + j - from ≡ j = omega arith in storing-all old (entries f 0 n) from (rw (at, length-entries f 0 n) h) (z .stored)
+
+-- the sum over distances as it is made
+pub record Adding (late : Bool) (times : ℕ) (went : List ℕ) (j d count : ℕ) : Type 0 where
+  pub upto : d ≤ 8
+  pub sum-is : count ≡ sum d (λ e. cond (goesIn late times j e) (getD went e 0) 0)
+  pub few : count ≤ d * 8192
+
+pub adding-start : (late : Bool) (times : ℕ) (went : List ℕ) (j : ℕ) → Adding late times went j 0 0
+adding-start late times went j = record { upto = omega arith; sum-is = refl; few = omega arith }
+
+few-cond : (b : Bool) (n : ℕ) → cond b n 0 ≤ n
+few-cond true n = omega arith
+few-cond false n = omega arith
+
+pub adding-next : {late : Bool} {times : ℕ} (went : List ℕ) {j d count x : ℕ} {b : Bool} → d < 8 → Few went → b ≡ goesIn late times j d → x ≡ cond b (getD went d 0) 0
+    → Adding late times went j d count → Adding late times went j (d + 1) (count + x)
+adding-next went {j} {d} {count} {x} {b} h f e g z =
+    rw add-one
+    (record {
+      upto = omega arith;
+      sum-is = ap₂ _+_ (z .sum-is) (g ∙ ap (λ (c : Bool). cond c (getD went d 0) 0) e);
+      few = omega (arith, z .few, g, few-cond b (getD went d 0), f .few d h);
+    })
+
+pub adding-end : {late : Bool} {times : ℕ} {went : List ℕ} {j d count : ℕ} → 8 ≤ d → Adding late times went j d count → count ≡ movers late times went j
+adding-end {late} {times} {went} {j} {d} h z =
+    let e : d ≡ 8 = omega (arith, z .upto) in
+    z .sum-is ∙ ap (λ (n : ℕ). sum n (λ e. cond (goesIn late times j e) (getD went e 0) 0)) e
+
+-- a run one way, by what the mesh says of it
+module _ (l : Leg) {lanes : Bool} {T T′ : ℕ → Cell} {went : List ℕ} (side : isSide (l .side) ≡ true) (within : l .made ≤ l .times) (on : lanes ≡ true) (r : RanLanes lanes (ruleOf l) T T′ went) where
+  pub movers-are : (j : ℕ) → j < l .made → movers (l .late) (l .times) went j ≡ goneIn (ruleOf l) j T
+  movers-are j h =
+      sum-cong 8 (λ d u. ap (λ (n : ℕ). cond (goesIn (l .late) (l .times) j d) n 0) (r .went on d u))
+      ∙ sym (gone-by-went l j T side h within)
+
+  pub movers-few : (j : ℕ) → j < l .made → movers (l .late) (l .times) went j ≤ 65535
+  movers-few j h = omega (arith, movers-are j h, gone-few l j T, side-known (l .side) side .cells-few)
+
+  pub few-went : Few went
+  few-went = record { few = λ d h. omega (arith, r .went on d h, went-few l d T, side-known (l .side) side .cells-few) }
+
+  pub ran-leg : {from : ℕ} {moved moved′ : List ℕ} → moved′ ≡ sets moved from (entries (movers (l .late) (l .times) went) 0 (l .made)) → RanLeg l from T T′ moved moved′
+  ran-leg {from} {moved} e = record {
+    made = r .made on;
+    log = e ∙ ap (sets moved from) (entries-cong (l .made) movers-are);
+  }
+
+pub run-leg : (trip : Trip) (s swaps times m : ℕ) {w : Way} {x : Move} {l : Leg} {from : ℕ} {T T′ : ℕ → Cell} {moved moved′ : List ℕ} → x ≡ Electronic w → l ≡ legOf trip s swaps w times m → RanLeg l from T T′ moved moved′
+    → RanRun trip s swaps x times m from T T′ moved moved′
+run-leg trip s swaps times m {w} {x} {l} {from} {T} {T′} {moved} {moved′} e f z =
+    rw e
+    (let y : RanLeg (legOf trip s swaps w times m) from T T′ moved moved′ = rw f at z in
+    record {
+      made = y .made;
+      log = y .log ∙ ap (sets moved from) (entries-cong m (λ j h. gone-made (legOf trip s swaps w times m) times j T));
+    })
+
+gone-cong : (l : Leg) (j : ℕ) {T U : ℕ → Cell} → ((i : ℕ) → i < cells (l .side) → T i ≡ U i) → goneIn (ruleOf l) j T ≡ goneIn (ruleOf l) j U
+gone-cong l j e =
+    sum-cong (cells (l .side)) (λ i h. ap (λ (c : Cell). goesAt (ruleOf l) j (spotOf (ruleOf l) i) (c .front) + goesAt (ruleOf l) j (spotOf (ruleOf l) i) (c .spare)) (e i h))
+
+-- a run looks at the cells of the board only
+module _ (trip : Trip) {s : ℕ} (pos : 0 < s) {T U : ℕ → Cell} (same : (i : ℕ) → i < cells s → T i ≡ U i) where
+  by-same : (swaps : ℕ) (x : Move) (times m i : ℕ) → i < cells s → ranBy trip s swaps x times m T i ≡ ranBy trip s swaps x times m U i
+  by-same swaps Swap times m i h = swaps-same s pos m same i h
+  by-same swaps (Electronic w) times m i h = ran-same (legOf trip s swaps w times m) pos T U same i h
+
+  gone-same : (swaps : ℕ) (x : Move) (times j : ℕ) → goneBy trip s swaps x times j T ≡ goneBy trip s swaps x times j U
+  gone-same swaps Swap times j = leaving-same s (swaps-same s pos j same)
+  gone-same swaps (Electronic w) times j = gone-cong (legOf trip s swaps w times times) j same
+
+pub after-same : (trip : Trip) {s : ℕ} → 0 < s → (rs : List Run) (swaps k : ℕ) (T U : ℕ → Cell) → ((i : ℕ) → i < cells s → T i ≡ U i)
+    → ((i : ℕ) → i < cells s → after trip s rs swaps k T i ≡ after trip s rs swaps k U i) × (movedLog trip s rs swaps k T ≡ movedLog trip s rs swaps k U)
+unfolding after movedLog
+after-same trip pos [] swaps k T U e = (e, refl)
+after-same trip {s} pos (r ∷ rs) swaps k T U e =
+    let m = madeOf r k in
+    let z = after-same trip pos rs (swaps + swapsIn (r .step) m) (k - m) (ranBy trip s swaps (r .step) (r .times) m T) (ranBy trip s swaps (r .step) (r .times) m U) (by-same trip pos e swaps (r .step) (r .times) m) in
+    (z .0, ap₂ _++_ (entries-cong m (λ j h. gone-same trip pos e swaps (r .step) (r .times) j)) (z .1))
+
+-- q runs were made, with so many moves and swaps: the others lead to the end
+pub record Running (trip : Trip) (s : ℕ) (rs : List Run) (n q done swaps : ℕ) (T C : ℕ → Cell) (moved moved′ : List ℕ) : Type 0 where
+  pub upto : done ≤ n
+  pub few : swaps ≤ done
+  pub cells-left : (i : ℕ) → i < cells s → after trip s (drop q rs) swaps (n - done) C i ≡ after trip s rs 0 n T i
+  pub log-left : sets moved′ done (movedLog trip s (drop q rs) swaps (n - done) C) ≡ sets moved 0 (movedLog trip s rs 0 n T)
+
+pub running-start : (trip : Trip) (s : ℕ) (rs : List Run) (n : ℕ) (T : ℕ → Cell) (moved : List ℕ) → Running trip s rs n 0 0 0 T T moved moved
+running-start trip s rs n T moved = record { upto = omega arith; few = omega arith; cells-left = λ i h. rw sub-zero; log-left = rw sub-zero }
+
+pub few-swaps : (x : Move) (n : ℕ) → swapsIn x n ≤ n
+few-swaps Swap n = omega arith
+few-swaps (Electronic w) n = omega arith
+
+pub running-next : {trip : Trip} {s : ℕ} (rs : List Run) {n q done swaps m : ℕ} {T C C′ : ℕ → Cell} {moved now₁ now₂ : List ℕ} (d : Run) → 0 < s → q < length rs
+    → m ≡ min (getD rs q d .times) (n - done)
+    → RanRun trip s swaps (getD rs q d .step) (getD rs q d .times) m done C C′ now₁ now₂ → Running trip s rs n q done swaps T C moved now₁
+    → Running trip s rs n (q + 1) (done + m) (swaps + swapsIn (getD rs q d .step) m) T C′ moved now₂
+unfolding after movedLog
+running-next {trip} {s} rs {n} {q} {done} {swaps} {m} {T} {C} {C′} {moved} {now₁} {now₂} d pos h e y z =
+    let r = getD rs q d in
+    let rest = drop (suc q) rs in
+    let left : n - (done + m) ≡ n - done - m = omega arith in
+    let vs = entries (λ j. goneBy trip s swaps (r .step) (r .times) j C) 0 m in
+    let tail = movedLog trip s (drop (suc q) rs) (swaps + swapsIn (r .step) m) (n - done - m) (ranBy trip s swaps (r .step) (r .times) m C) in
+    let a = after-same trip pos (drop (suc q) rs) (swaps + swapsIn (r .step) m) (n - done - m) C′ (ranBy trip s swaps (r .step) (r .times) m C) (y .made) in
+    rw add-one
+    (record {
+      upto = omega (arith, e, z .upto);
+      few = omega (arith, z .few, few-swaps (r .step) m);
+      cells-left = λ i u. rw left (a .0 i u ∙ ap (λ (k : ℕ). after trip s rest (swaps + swapsIn (r .step) k) (n - done - k) (ranBy trip s swaps (r .step) (r .times) k C) i) e
+          ∙ sym (ap (λ (l : List Run). after trip s l swaps (n - done) C i) (drop-cons rs q d h)) ∙ z .cells-left i u);
+      log-left = rw left
+          (ap (sets now₂ (done + m)) (a .1) ∙ ap (λ (l : List ℕ). sets l (done + m) tail) (y .log)
+          ∙ ap (λ (k : ℕ). sets (sets now₁ done vs) (done + k) tail) (sym (length-entries (λ j. goneBy trip s swaps (r .step) (r .times) j C) 0 m))
+          ∙ sym (sets-append now₁ done vs tail)
+          ∙ ap (λ (k : ℕ). sets now₁ done (entries (λ j. goneBy trip s swaps (r .step) (r .times) j C) 0 k ++ movedLog trip s rest (swaps + swapsIn (r .step) k) (n - done - k) (ranBy trip s swaps (r .step) (r .times) k C))) e
+          ∙ sym (ap (λ (l : List Run). sets now₁ done (movedLog trip s l swaps (n - done) C)) (drop-cons rs q d h)) ∙ z .log-left);
+    })
+
+pub running-end : {lanes : Bool} {trip : Trip} {s : ℕ} (rs : List Run) {n q done swaps : ℕ} {T C : ℕ → Cell} {moved moved′ : List ℕ} → lanes ≡ true → length rs ≤ q
+    → Running trip s rs n q done swaps T C moved moved′ → Ran lanes trip s rs n T C moved moved′
+unfolding after movedLog
+running-end {lanes} {trip} {s} rs {n} {q} {done} {swaps} {T} {C} {moved} {moved′} l h z = record {
+  made = λ _ i u. rw (drop-of-length-le rs h) at (z .cells-left i u);
+  kept = λ f. absurd (let y : _≡_ {A = Bool} true false = sym l ∙ f in let o : _≡_ {A = ℕ} 0 1 = cc in omega arith);
+  log = rw l (rw (drop-of-length-le rs h) at (z .log-left));
+}
+
+pub ran-nothing : {lanes : Bool} {trip : Trip} {s : ℕ} {rs : List Run} {n : ℕ} {T : ℕ → Cell} {moved : List ℕ} → lanes ≡ false → Ran lanes trip s rs n T T moved moved
+ran-nothing l = record {
+  made = λ f. absurd (let y : _≡_ {A = Bool} true false = sym f ∙ l in let o : _≡_ {A = ℕ} 0 1 = cc in omega arith);
+  kept = λ _ i. refl;
+  log = rw l;
+}
+
+-- so many swaps as they are made
+pub record Swapping (s m from j : ℕ) (T C : ℕ → Cell) (moved moved′ : List ℕ) : Type 0 where
+  pub made : (i : ℕ) → i < cells s → C i ≡ swapped s j T i
+  pub logged : Logging (λ k. leaving s (swapped s k T)) m from j moved moved′
+
+pub swapping-start : (s m from : ℕ) (T : ℕ → Cell) (moved : List ℕ) → Swapping s m from 0 T T moved moved
+unfolding swapped
+swapping-start s m from T moved = record { made = λ i h. refl; logged = logging-start (λ k. leaving s (swapped s k T)) m from moved }
+
+pub swapping-next : {s m from j r : ℕ} {T C C′ : ℕ → Cell} {moved now₁ : List ℕ} → 0 < s → j < m → ((i : ℕ) → i < cells s → C′ i ≡ C (partner s i)) → r ≡ leaving s C
+    → Swapping s m from j T C moved now₁ → Swapping s m from (j + 1) T C′ moved (set now₁ (from + j) r)
+unfolding swapped
+swapping-next {s} {m} {from} {j} {r} {T} pos h e f z = record {
+  made = λ i u. rw add-one (e i u ∙ z .made (partner s i) (partner-in pos i u));
+  logged = logging-next (λ k. leaving s (swapped s k T)) h (f ∙ leaving-same s (z .made)) (z .logged);
+}
+
+pub swapping-end : (trip : Trip) (swaps times : ℕ) {s m from j : ℕ} {T C : ℕ → Cell} {moved moved′ : List ℕ} → m ≤ j → Swapping s m from j T C moved moved′ → RanRun trip s swaps Swap times m from T C moved moved′
+swapping-end trip swaps times {s} {m} {from} {j} {T} h z =
+    let e : j ≡ m = omega (arith, z .logged .upto) in
+    record { made = λ i u. z .made i u ∙ ap (λ (k : ℕ). swapped s k T i) e; log = logging-end (λ k. leaving s (swapped s k T)) h (z .logged) }
