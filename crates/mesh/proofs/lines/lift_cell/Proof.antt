@@ -1,3 +1,4 @@
+use Rattle.mesh.proofs.Parts.{in-lane}
 use mathlib.Core.Path.{sym, _∙_}
 use borrow.Author.Tests.{not-true, not-false}
 use Rattle.mesh.proofs.Lifting.{lifted-none, lifted-some}
@@ -6,25 +7,25 @@ use Rattle.mesh.proofs.lines.lift_cell.Statement.{statement}
 use Rattle.mesh.proofs.lines.lift_cell.Tie as tie
 
 slice-read-goes : tie.Need-slice-read-goes
-slice-read-goes c = search needs
+slice-read-goes c = let s = c .before .before .before .before .before .before .before in in-lane (s .pre .0 .1) (s .pre .1 .marks)
 
 mul-goes : tie.Need-mul-goes
 mul-goes c = search needs
 
 slice-read-goes-2 : tie.Need-slice-read-goes-2
-slice-read-goes-2 c = search needs
+slice-read-goes-2 c = let s = c .before .before .before .before .before .before .before .before in in-lane (s .pre .0 .1) (s .pre .1 .aims)
 
 goes-requires : tie.Need-goes-requires
 goes-requires c κs = c .before .before .before .before .before .before .before .before .pre .0 .0
 
 slice-read-goes-3 : tie.Need-slice-read-goes-3
-slice-read-goes-3 c = search needs
+slice-read-goes-3 c = let s = c .before .before .before .before .before .before .before .before .before .before in in-lane (s .pre .0 .1) (s .pre .1 .marks2)
 
 mul-goes-2 : tie.Need-mul-goes-2
 mul-goes-2 c = search needs
 
 slice-read-goes-4 : tie.Need-slice-read-goes-4
-slice-read-goes-4 c = search needs
+slice-read-goes-4 c = let s = c .before .before .before .before .before .before .before .before .before .before .before in in-lane (s .pre .0 .1) (s .pre .1 .aims2)
 
 goes-requires-2 : tie.Need-goes-requires-2
 goes-requires-2 c κs = c .before .before .before .before .before .before .before .before .before .before .before .pre .0 .0

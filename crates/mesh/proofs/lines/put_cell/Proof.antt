@@ -1,3 +1,4 @@
+use Rattle.mesh.proofs.Parts.{kept-sized}
 use mathlib.Core.Path.{_∙_}
 use mathlib.Core.Path.{refl}
 use native.Mathlib.Omega.{arith}
@@ -12,9 +13,10 @@ put-down-requires c κs = let s = c .before .before .before .before .before .bef
 put-down-requires-2 : tie.Need-put-down-requires-2
 put-down-requires-2 c κs =
     let s = c .before .before .before .before .before .before .before .before .before .before .before .before .before .before .before .before .before .before .before .before .before .before .before .before .before .before .before .before .before .before .before .before .before .before .before .before .before .before in
+    let a = s .args in
     let r = s .pre .1 .0 .1 in
     let y = c .before .before .before .before .before .before .before .before .before .before .before .before .before .before .before .before .before .before .before .before .before .put-down in
-    (s .pre .0, ((s .pre .1 .0 .0, record { long = omega (arith, r .long, y .kept); room = λ d h. omega (arith, r .room d h, down-few (y .ensures) d h) }), omega (arith, s .pre .1 .1, y .kept)))
+    (s .pre .0, ((s .pre .1 .0 .0, record { long = y .kept .1 .1 .1 .1 .1 .1 .0 ∙ r .long; room = λ d h. down-few (a .t) d (a .p) (a .c .front) (r .room d h) (y .ensures .count d h) }), kept-sized (s .pre .1 .1) (y .kept .1 .1 .1 .1 .1 .1 .1 .0) (y .kept .1 .1 .1 .1 .1 .1 .1 .1 .0) (y .kept .1 .1 .1 .1 .1 .1 .1 .1 .1 .0) (y .kept .1 .1 .1 .1 .1 .1 .1 .1 .1 .1 .0) (y .kept .1 .1 .1 .1 .1 .1 .1 .1 .1 .1 .1 .0) (y .kept .1 .1 .1 .1 .1 .1 .1 .1 .1 .1 .1 .1 .0)))
 
 same-length : tie.Need-same-length
 same-length c = c .before .before .before .before .before .before .before .before .before .before .before .before .before .before .put-down2 .kept .1 .1 .1 .1 .1 .1 .0 ∙ c .before .before .before .before .before .before .before .before .before .before .before .before .before .before .before .before .before .before .before .before .before .before .before .before .before .before .before .before .before .before .before .before .before .before .before .before .put-down .kept .1 .1 .1 .1 .1 .1 .0

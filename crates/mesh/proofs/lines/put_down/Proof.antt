@@ -34,7 +34,7 @@ slice-write-counts : tie.Need-slice-write-counts
 slice-write-counts c = let s = c .before .before .before .before .before .before .before .before .before .before .before .before in omega (arith, c .before .distance .ensures, s .pre .1 .0 .1 .long, distance-few (s .args .t) (s .args .p) (c .before .before .digit .result) (omega (arith, s .pre .1 .0 .0, known (s .pre .0 .0) .most)) (omega (arith, c .before .before .digit .ensures .1, known (s .pre .0 .0) .most)))
 
 ending-requires : tie.Need-ending-requires
-ending-requires c κs = let s = c .before .before .before .before .before .before .before .before .before .before .before .before in ((s .pre .1 .0 .0, c .before .before .digit .ensures .1), (known (s .pre .0 .0) .most, s .pre .0 .0 .within))
+ending-requires c κs = let s = c .before .before .before .before .before .before .before .before .before .before .before .before in let k = known (s .pre .0 .0) in ((s .pre .1 .0 .0, omega (arith, s .pre .1 .0 .0, c .before .before .digit .ensures .1)), (k .most, s .pre .0 .0 .within))
 
 mul-at : tie.Need-mul-at
 mul-at c = let s = c .before .before .before .before .before .before .before .before .before .before .before .before .before .before in omega (arith, s .pre .0 .1 .inside (c .before .ending .result) (c .before .ending .ensures .1), s .pre .0 .1 .short)
