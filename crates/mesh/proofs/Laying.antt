@@ -78,9 +78,8 @@ one-most t d p x = go (eqb (x .mark) 0) (eqb d (distanceOf t p (headOf t x)))
     go false true = omega arith
     go false false = omega arith
 
-pub down-few : {t : Rule} {start p : ℕ} {x : Rec} {T T′ : ℕ → Cell} {counts : Lent} → PutDown t start p x T T′ counts → (d : ℕ) → d < 8
-    → getD (now (counts .exit)) d 0 ≤ getD (now (counts .entry)) d 0 + 1
-down-few {t} {start} {p} {x} y d h = omega (arith, y .count d h, one-most t d p x)
+pub down-few : (t : Rule) (d p : ℕ) (x : Rec) {old new : ℕ} → old ≤ 100000 → new ≡ old + oneOf t d p x → new ≤ 1000000
+down-few t d p x h e = omega (arith, e, one-most t d p x)
 
 -- the cells of the line from `from` on, up to p
 pub record Putting (t : Rule) (start from p : ℕ) (held : List Cell) (T C : ℕ → Cell) (old counts : List ℕ) : Type 0 where

@@ -1,3 +1,6 @@
+use mir.Val.{Fits}
+use mir.Syntax.{w64}
+use borrow.Rule.Slice.PartMut.{same-len-mid}
 use Prim.Native.Nat.{ℕ, _+_, _-_, _≤_}
 use mathlib.Core.Path.{_≡_, refl}
 use native.Mathlib.Omega.{arith}
@@ -9,77 +12,86 @@ use borrow.Author.Needs.{needs}
 use Rattle.mesh.proofs.run_part.Statement.{statement}
 use Rattle.mesh.proofs.run_part.Tie as tie
 
+few : {n : ℕ} → n ≤ 65536 → Fits w64 n
+few h = omega (arith, h)
+
+from : (b n : ℕ) → b ≤ b + n
+from b n = omega arith
+
+upto : {e k l : ℕ} → e ≤ k → l ≡ k → e ≤ l
+upto h q = omega (arith, h, q)
+
 mul-end : tie.Need-mul-end
-mul-end c = search needs
+mul-end c = let k = known (c .before .before .before .before .before .before .before .before .pre .0 .0) in few (omega (arith, k .groups-few))
 
 add-end : tie.Need-add-end
-add-end c = search needs
+add-end c = let k = known (c .before .before .before .before .before .before .before .before .pre .0 .0) in few (omega (arith, c .before .before .before .before .before .before .before .before .pre .1 .1 .0, k .cells-few))
 
 mul-run-group : tie.Need-mul-run-group
-mul-run-group c = search needs
+mul-run-group c = let k = known (c .before .before .before .before .before .before .before .before .before .pre .0 .0) in omega (arith, c .before .before .before .before .before .before .before .before .before .pre .1 .1 .0, k .cells-few)
 
 sub-run-group : tie.Need-sub-run-group
-sub-run-group c = search needs
+sub-run-group c = from (c .before .before .before .before .before .before .before .before .before .args .base) _
 
 part-run-group-start : tie.Need-part-run-group-start
-part-run-group-start c = search needs
+part-run-group-start c = from (c .before .before .before .before .before .before .before .before .before .args .base) _
 
 part-run-group-end : tie.Need-part-run-group-end
-part-run-group-end c = search needs
+part-run-group-end c = upto (c .before .before .before .before .before .before .before .before .before .pre .1 .1 .0) (c .before .before .before .before .before .before .before .before .before .pre .1 .1 .1 .1 .words)
 
 sub-run-group-2 : tie.Need-sub-run-group-2
-sub-run-group-2 c = search needs
+sub-run-group-2 c = from (c .before .before .before .before .before .before .before .before .before .before .args .base) _
 
 part-run-group-start-2 : tie.Need-part-run-group-start-2
-part-run-group-start-2 c = search needs
+part-run-group-start-2 c = from (c .before .before .before .before .before .before .before .before .before .before .args .base) _
 
 part-run-group-end-2 : tie.Need-part-run-group-end-2
-part-run-group-end-2 c = search needs
+part-run-group-end-2 c = upto (c .before .before .before .before .before .before .before .before .before .before .pre .1 .1 .0) (c .before .before .before .before .before .before .before .before .before .before .pre .1 .1 .1 .1 .marks)
 
 mul-run-group-2 : tie.Need-mul-run-group-2
-mul-run-group-2 c = search needs
+mul-run-group-2 c = let k = known (c .before .before .before .before .before .before .before .before .before .before .before .pre .0 .0) in omega (arith, c .before .before .before .before .before .before .before .before .before .before .before .pre .1 .1 .0, k .cells-few)
 
 sub-run-group-3 : tie.Need-sub-run-group-3
-sub-run-group-3 c = search needs
+sub-run-group-3 c = from (c .before .before .before .before .before .before .before .before .before .before .before .args .base) _
 
 part-run-group-start-3 : tie.Need-part-run-group-start-3
-part-run-group-start-3 c = search needs
+part-run-group-start-3 c = from (c .before .before .before .before .before .before .before .before .before .before .before .args .base) _
 
 part-run-group-end-3 : tie.Need-part-run-group-end-3
-part-run-group-end-3 c = search needs
+part-run-group-end-3 c = upto (c .before .before .before .before .before .before .before .before .before .before .before .pre .1 .1 .0) (c .before .before .before .before .before .before .before .before .before .before .before .pre .1 .1 .1 .1 .aims)
 
 mul-run-group-3 : tie.Need-mul-run-group-3
-mul-run-group-3 c = search needs
+mul-run-group-3 c = let k = known (c .before .before .before .before .before .before .before .before .before .before .before .before .pre .0 .0) in omega (arith, c .before .before .before .before .before .before .before .before .before .before .before .before .pre .1 .1 .0, k .cells-few)
 
 sub-run-group-4 : tie.Need-sub-run-group-4
-sub-run-group-4 c = search needs
+sub-run-group-4 c = from (c .before .before .before .before .before .before .before .before .before .before .before .before .args .base) _
 
 part-run-group-start-4 : tie.Need-part-run-group-start-4
-part-run-group-start-4 c = search needs
+part-run-group-start-4 c = from (c .before .before .before .before .before .before .before .before .before .before .before .before .args .base) _
 
 part-run-group-end-4 : tie.Need-part-run-group-end-4
-part-run-group-end-4 c = search needs
+part-run-group-end-4 c = upto (c .before .before .before .before .before .before .before .before .before .before .before .before .pre .1 .1 .0) (c .before .before .before .before .before .before .before .before .before .before .before .before .pre .1 .1 .1 .1 .words2)
 
 sub-run-group-5 : tie.Need-sub-run-group-5
-sub-run-group-5 c = search needs
+sub-run-group-5 c = from (c .before .before .before .before .before .before .before .before .before .before .before .before .before .args .base) _
 
 part-run-group-start-5 : tie.Need-part-run-group-start-5
-part-run-group-start-5 c = search needs
+part-run-group-start-5 c = from (c .before .before .before .before .before .before .before .before .before .before .before .before .before .args .base) _
 
 part-run-group-end-5 : tie.Need-part-run-group-end-5
-part-run-group-end-5 c = search needs
+part-run-group-end-5 c = upto (c .before .before .before .before .before .before .before .before .before .before .before .before .before .pre .1 .1 .0) (c .before .before .before .before .before .before .before .before .before .before .before .before .before .pre .1 .1 .1 .1 .marks2)
 
 mul-run-group-4 : tie.Need-mul-run-group-4
-mul-run-group-4 c = search needs
+mul-run-group-4 c = let k = known (c .before .before .before .before .before .before .before .before .before .before .before .before .before .before .pre .0 .0) in omega (arith, c .before .before .before .before .before .before .before .before .before .before .before .before .before .before .pre .1 .1 .0, k .cells-few)
 
 sub-run-group-6 : tie.Need-sub-run-group-6
-sub-run-group-6 c = search needs
+sub-run-group-6 c = from (c .before .before .before .before .before .before .before .before .before .before .before .before .before .before .args .base) _
 
 part-run-group-start-6 : tie.Need-part-run-group-start-6
-part-run-group-start-6 c = search needs
+part-run-group-start-6 c = from (c .before .before .before .before .before .before .before .before .before .before .before .before .before .before .args .base) _
 
 part-run-group-end-6 : tie.Need-part-run-group-end-6
-part-run-group-end-6 c = search needs
+part-run-group-end-6 c = upto (c .before .before .before .before .before .before .before .before .before .before .before .before .before .before .pre .1 .1 .0) (c .before .before .before .before .before .before .before .before .before .before .before .before .before .before .pre .1 .1 .1 .1 .aims2)
 
 run-group-requires : tie.Need-run-group-requires
 run-group-requires c κs =
@@ -91,25 +103,25 @@ run-group-requires c κs =
     (s .pre .0, (record { long = s .pre .1 .0 .long; room = s .pre .1 .0 .room }, omega (arith, k, z)))
 
 same-length : tie.Need-same-length
-same-length c = search needs
+same-length c = c .before .before .before .before .before .before .before .before .before .before .before .before .before .before .run-group .kept .1 .1 .0
 
 same-length-2 : tie.Need-same-length-2
-same-length-2 c = search needs
+same-length-2 c = let a = c .before .before .before .before .before .before .before .before .before .before .before .before .before .before .before .before .before .before .before .before .before .before .before .before .before .before .before .before .before .before .args in let g = c .before .before .before .before .before .before .before .before .before .before .before .before .before .before .run-group in same-len-mid {X = ℕ} (a .base) (a .base + groups (a .t .side) - a .base) (a .words .now) (g .last .1 .1 .1 .0) (g .kept .1 .1 .1 .0)
 
 same-length-3 : tie.Need-same-length-3
-same-length-3 c = search needs
+same-length-3 c = let a = c .before .before .before .before .before .before .before .before .before .before .before .before .before .before .before .before .before .before .before .before .before .before .before .before .before .before .before .before .before .before .args in let g = c .before .before .before .before .before .before .before .before .before .before .before .before .before .before .run-group in same-len-mid {X = ℕ} (a .base) (a .base + groups (a .t .side) - a .base) (a .marks .now) (g .last .1 .1 .1 .1 .0) (g .kept .1 .1 .1 .1 .0)
 
 same-length-4 : tie.Need-same-length-4
-same-length-4 c = search needs
+same-length-4 c = let a = c .before .before .before .before .before .before .before .before .before .before .before .before .before .before .before .before .before .before .before .before .before .before .before .before .before .before .before .before .before .before .args in let g = c .before .before .before .before .before .before .before .before .before .before .before .before .before .before .run-group in same-len-mid {X = ℕ} (a .base) (a .base + groups (a .t .side) - a .base) (a .aims .now) (g .last .1 .1 .1 .1 .1 .0) (g .kept .1 .1 .1 .1 .1 .0)
 
 same-length-5 : tie.Need-same-length-5
-same-length-5 c = search needs
+same-length-5 c = let a = c .before .before .before .before .before .before .before .before .before .before .before .before .before .before .before .before .before .before .before .before .before .before .before .before .before .before .before .before .before .before .args in let g = c .before .before .before .before .before .before .before .before .before .before .before .before .before .before .run-group in same-len-mid {X = ℕ} (a .base) (a .base + groups (a .t .side) - a .base) (a .spare-words .now) (g .last .1 .1 .1 .1 .1 .1 .0) (g .kept .1 .1 .1 .1 .1 .1 .0)
 
 same-length-6 : tie.Need-same-length-6
-same-length-6 c = search needs
+same-length-6 c = let a = c .before .before .before .before .before .before .before .before .before .before .before .before .before .before .before .before .before .before .before .before .before .before .before .before .before .before .before .before .before .before .args in let g = c .before .before .before .before .before .before .before .before .before .before .before .before .before .before .run-group in same-len-mid {X = ℕ} (a .base) (a .base + groups (a .t .side) - a .base) (a .spare-marks .now) (g .last .1 .1 .1 .1 .1 .1 .1 .0) (g .kept .1 .1 .1 .1 .1 .1 .1 .0)
 
 same-length-7 : tie.Need-same-length-7
-same-length-7 c = search needs
+same-length-7 c = let a = c .before .before .before .before .before .before .before .before .before .before .before .before .before .before .before .before .before .before .before .before .before .before .before .before .before .before .before .before .before .before .args in let g = c .before .before .before .before .before .before .before .before .before .before .before .before .before .before .run-group in same-len-mid {X = ℕ} (a .base) (a .base + groups (a .t .side) - a .base) (a .spare-aims .now) (g .last .1 .1 .1 .1 .1 .1 .1 .1 .0) (g .kept .1 .1 .1 .1 .1 .1 .1 .1 .0)
 
 returns : tie.Need-returns
 returns c =

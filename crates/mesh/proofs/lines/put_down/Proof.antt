@@ -12,10 +12,10 @@ returns : tie.Need-returns
 returns c = put-none (c .if1 .taken) refl
 
 digit-requires : tie.Need-digit-requires
-digit-requires c κs = search needs
+digit-requires c κs = c .before .before .before .before .before .before .before .before .before .pre .0 .0
 
 distance-requires : tie.Need-distance-requires
-distance-requires c κs = search needs
+distance-requires c κs = tt
 
 mul-counts : tie.Need-mul-counts
 mul-counts c = let s = c .before .before .before .before .before .before .before .before .before .before .before in omega (arith, c .distance .ensures, c .before .digit .ensures .1, known (s .pre .0 .0) .most, distance-few (s .args .t) (s .args .p) (c .before .digit .result) (omega (arith, s .pre .1 .0 .0, known (s .pre .0 .0) .most)) (omega (arith, c .before .digit .ensures .1, known (s .pre .0 .0) .most)))
@@ -34,7 +34,7 @@ slice-write-counts : tie.Need-slice-write-counts
 slice-write-counts c = let s = c .before .before .before .before .before .before .before .before .before .before .before .before in omega (arith, c .before .distance .ensures, s .pre .1 .0 .1 .long, distance-few (s .args .t) (s .args .p) (c .before .before .digit .result) (omega (arith, s .pre .1 .0 .0, known (s .pre .0 .0) .most)) (omega (arith, c .before .before .digit .ensures .1, known (s .pre .0 .0) .most)))
 
 ending-requires : tie.Need-ending-requires
-ending-requires c κs = let s = c .before .before .before .before .before .before .before .before .before .before .before .before in ((s .pre .1 .0 .0, c .before .before .digit .ensures .1), (known (s .pre .0 .0) .most, s .pre .0 .0 .within))
+ending-requires c κs = let s = c .before .before .before .before .before .before .before .before .before .before .before .before in let k = known (s .pre .0 .0) in ((s .pre .1 .0 .0, omega (arith, s .pre .1 .0 .0, c .before .before .digit .ensures .1)), (k .most, s .pre .0 .0 .within))
 
 mul-at : tie.Need-mul-at
 mul-at c = let s = c .before .before .before .before .before .before .before .before .before .before .before .before .before .before in omega (arith, s .pre .0 .1 .inside (c .before .ending .result) (c .before .ending .ensures .1), s .pre .0 .1 .short)
@@ -46,7 +46,7 @@ read-requires : tie.Need-read-requires
 read-requires c κs = let s = c .before .before .before .before .before .before .before .before .before .before .before .before .before .before .before .before .before .before .before .before in (s .pre .0 .1 .inside (c .before .before .before .before .before .before .before .ending .result) (c .before .before .before .before .before .before .before .ending .ensures .1), s .pre .1 .1)
 
 joined-requires : tie.Need-joined-requires
-joined-requires c κs = search needs
+joined-requires c κs = tt
 
 put-requires : tie.Need-put-requires
 put-requires c κs = let s = c .before .before .before .before .before .before .before .before .before .before .before .before .before .before .before .before .before .before .before .before .before .before .before .before .before .before .before .before in (s .pre .0 .1 .inside (c .before .before .before .before .before .before .before .before .before .before .before .before .before .before .before .ending .result) (c .before .before .before .before .before .before .before .before .before .before .before .before .before .before .before .ending .ensures .1), s .pre .1 .1)
@@ -55,22 +55,22 @@ same-length : tie.Need-same-length
 same-length c = search needs
 
 same-length-2 : tie.Need-same-length-2
-same-length-2 c = search needs
+same-length-2 c = c .before .before .before .before .before .before .before .before .before .before .before .before .put .kept .1 .1 .1 .0
 
 same-length-3 : tie.Need-same-length-3
-same-length-3 c = search needs
+same-length-3 c = c .before .before .before .before .before .before .before .before .before .before .before .before .put .kept .1 .1 .1 .1 .0
 
 same-length-4 : tie.Need-same-length-4
-same-length-4 c = search needs
+same-length-4 c = c .before .before .before .before .before .before .before .before .before .before .before .before .put .kept .1 .1 .1 .1 .1 .0
 
 same-length-5 : tie.Need-same-length-5
-same-length-5 c = search needs
+same-length-5 c = c .before .before .before .before .before .before .before .before .before .before .before .before .put .kept .1 .1 .1 .1 .1 .1 .0
 
 same-length-6 : tie.Need-same-length-6
-same-length-6 c = search needs
+same-length-6 c = c .before .before .before .before .before .before .before .before .before .before .before .before .put .kept .1 .1 .1 .1 .1 .1 .1 .0
 
 same-length-7 : tie.Need-same-length-7
-same-length-7 c = search needs
+same-length-7 c = c .before .before .before .before .before .before .before .before .before .before .before .before .put .kept .1 .1 .1 .1 .1 .1 .1 .1 .0
 
 returns-2 : tie.Need-returns-2
 returns-2 c =
