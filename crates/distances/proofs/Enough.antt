@@ -68,6 +68,11 @@ of-only P true false c x y z = (x, z)
 of-only P false true c x y z = (y, z)
 of-only P false false c x y z = (z, z)
 
+-- a choice between two that are the same
+either : {A : Type 0} (m : Bool) (c : A) → cond m c c ≡ c
+either true c = refl
+either false c = refl
+
 -- runs of a moves and of b that take a record equally far which has at most d cells to go
 module _ (l : Leg) (a b d : ℕ) (same : (n : ℕ) → n ≤ d → goneOf (ruleOf (upTo l a)) n ≡ goneOf (ruleOf (upTo l b)) n) where
   abbrev A : Leg
@@ -95,13 +100,9 @@ module _ (l : Leg) (a b d : ℕ) (same : (n : ℕ) → n ≤ d → goneOf (ruleO
   unfolding landed joined
   landed-same p q x c u = go (eqb (x .mark) 0) u _
     where
-      none : (m : Bool) → cond m c c ≡ c
-      none true = refl
-      none false = refl
-
       go : (m : Bool) → cond m 0 (distanceOf (ruleOf l) q (headOf (ruleOf l) x)) ≤ d → (r : Cell)
           → cond (eqb (endOf (ruleOf A) q x) p) (cond m c r) c ≡ cond (eqb (endOf (ruleOf B) q x) p) (cond m c r) c
-      go true u r = none (eqb (endOf (ruleOf A) q x) p) ∙ sym (none (eqb (endOf (ruleOf B) q x) p))
+      go true u r = either (eqb (endOf (ruleOf A) q x) p) c ∙ sym (either (eqb (endOf (ruleOf B) q x) p) c)
       go false u r = ap (λ (e : ℕ). cond (eqb e p) r c) (ends-same q (headOf (ruleOf l) x) u)
 
   goers-same : (q : ℕ) (c : Cell) → farIn l q c ≤ d → goersOf (ruleOf A) q c ≡ goersOf (ruleOf B) q c
@@ -143,19 +144,11 @@ module _ (l : Leg) where
 
   none-leaves : (q : ℕ) (x : Rec) → leaves (ruleOf none) q x ≡ false
   unfolding leaves
-  none-leaves q x = rw (eq-eqb (endOf (ruleOf none) q x) q (none-ends q (headOf (ruleOf none) x))) (go (eqb (x .mark) 0))
-    where
-      go : (m : Bool) → cond m false false ≡ false
-      go true = refl
-      go false = refl
+  none-leaves q x = rw (eq-eqb (endOf (ruleOf none) q x) q (none-ends q (headOf (ruleOf none) x))) (either (eqb (x .mark) 0) false)
 
   none-lands : (p q : ℕ) (c : Cell) → landed (ruleOf none) p q nothing c ≡ c
   unfolding landed joined
-  none-lands p q c = go (eqb (endOf (ruleOf none) q nothing) p)
-    where
-      go : (m : Bool) → cond m c c ≡ c
-      go true = refl
-      go false = refl
+  none-lands p q c = either (eqb (endOf (ruleOf none) q nothing) p) c
 
   none-goers : (q : ℕ) (c : Cell) → goersOf (ruleOf none) q c ≡ empty
   unfolding goersOf
@@ -173,23 +166,22 @@ module _ (l : Leg) where
       ∙ none-lands p n (landed (ruleOf none) p n nothing (U p))
       ∙ none-lands p n (U p)
 
--- so far a record goes
-first-gone : (l : Leg) (k m : ℕ) → l .late ≡ false → k ≤ m → m ≤ l .times → (n : ℕ) → n ≤ k → goneOf (ruleOf (upTo l k)) n ≡ goneOf (ruleOf (upTo l m)) n
-first-gone l k m e h w n u = rw e (omega arith)
+-- a record that has at most d cells to go is there after d moves, and going late it has not set off while d are left
+first-gone : (l : Leg) (k m : ℕ) → l .late ≡ false → k ≤ m → (n : ℕ) → n ≤ k → goneOf (ruleOf (upTo l k)) n ≡ goneOf (ruleOf (upTo l m)) n
+first-gone l k m e h n u = rw e (omega arith)
 
-last-gone : (l : Leg) (d : ℕ) → l .late ≡ true → d ≤ l .times → (n : ℕ) → n ≤ d → goneOf (ruleOf (upTo l (l .times - d))) n ≡ goneOf (ruleOf (upTo l 0)) n
-last-gone l d e h n u = rw e (omega arith)
+last-gone : (l : Leg) (k d : ℕ) → l .late ≡ true → k ≤ l .times - d → (n : ℕ) → n ≤ d → goneOf (ruleOf (upTo l k)) n ≡ goneOf (ruleOf (upTo l 0)) n
+last-gone l k d e h n u = rw e (omega arith)
 
 -- a run of as many moves as the greatest distance on a line does to it what a longer one does
-pub line-enough : (l : Leg) (U : ℕ → Cell) (k m : ℕ) → l .late ≡ false → farthestOn l U ≤ k → k ≤ m → m ≤ l .times → (p : ℕ) → p < l .side
+pub line-enough : (l : Leg) (U : ℕ → Cell) (k m : ℕ) → l .late ≡ false → farthestOn l U ≤ k → k ≤ m → (p : ℕ) → p < l .side
     → ranLine (ruleOf (upTo l k)) U p ≡ ranLine (ruleOf (upTo l m)) U p
-line-enough l U k m e f h w p i = line-same l k m k (first-gone l k m e h w) U (λ q u. let z = far-on l U q u in omega (arith, z, f)) p i
+line-enough l U k m e f h p i = line-same l k m k (first-gone l k m e h) U (λ q u. let z = far-on l U q u in omega (arith, z, f)) p i
 
--- of a run that goes late, the moves before as many last ones do nothing to it
-pub line-idle : (l : Leg) (U : ℕ → Cell) (d : ℕ) → l .late ≡ true → farthestOn l U ≤ d → d ≤ l .times → (p : ℕ) → p < l .side
-    → ranLine (ruleOf (upTo l (l .times - d))) U p ≡ U p
-line-idle l U d e f h p i =
-    line-same l (l .times - d) 0 d (last-gone l d e h) U (λ q u. let z = far-on l U q u in omega (arith, z, f)) p i
+-- of a run that goes late only as many last moves do anything to it
+pub line-idle : (l : Leg) (U : ℕ → Cell) (k d : ℕ) → l .late ≡ true → farthestOn l U ≤ d → k ≤ l .times - d → (p : ℕ) → p < l .side → ranLine (ruleOf (upTo l k)) U p ≡ U p
+line-idle l U k d e f h p i =
+    line-same l k 0 d (last-gone l k d e h) U (λ q u. let z = far-on l U q u in omega (arith, z, f)) p i
     ∙ none-laid l U p (l .side)
 
 -- a board that has a cell has a side
@@ -262,18 +254,17 @@ module _ (l : Leg) (i : ℕ) (i< : i < cells (l .side)) where
       one q h = subst (λ (p : ℕ). farIn l p (T (lineCell (ruleOf l) i q)) ≤ farthest l T) (line-spot q h) (far-of l T (lineCell (ruleOf l) i q) (line-on q h))
 
 -- a run of as many moves as the greatest distance on the board does what a longer one does
-pub enough : (l : Leg) (T : ℕ → Cell) (k m : ℕ) → l .late ≡ false → farthest l T ≤ k → k ≤ m → m ≤ l .times → (i : ℕ) → i < cells (l .side)
+pub enough : (l : Leg) (T : ℕ → Cell) (k m : ℕ) → l .late ≡ false → farthest l T ≤ k → k ≤ m → (i : ℕ) → i < cells (l .side)
     → ranOn (ruleOf (upTo l k)) T i ≡ ranOn (ruleOf (upTo l m)) T i
 unfolding ranOn
-enough l T k m e f h w i u =
+enough l T k m e f h i u =
     let z = line-most l i u T in
-    line-enough l (λ q. T (lineCell (ruleOf l) i q)) k m e (omega (arith, z, f)) h w (spotOf (ruleOf l) i) (spot-in l i u)
+    line-enough l (λ q. T (lineCell (ruleOf l) i q)) k m e (omega (arith, z, f)) h (spotOf (ruleOf l) i) (spot-in l i u)
 
--- of a run that goes late, the moves before as many last ones do nothing
-pub idle : (l : Leg) (T : ℕ → Cell) (d : ℕ) → l .late ≡ true → farthest l T ≤ d → d ≤ l .times → (i : ℕ) → i < cells (l .side)
-    → ranOn (ruleOf (upTo l (l .times - d))) T i ≡ T i
+-- of a run that goes late only as many last moves do anything
+pub idle : (l : Leg) (T : ℕ → Cell) (k d : ℕ) → l .late ≡ true → farthest l T ≤ d → k ≤ l .times - d → (i : ℕ) → i < cells (l .side) → ranOn (ruleOf (upTo l k)) T i ≡ T i
 unfolding ranOn
-idle l T d e f h i u =
+idle l T k d e f h i u =
     let z = line-most l i u T in
-    line-idle l (λ q. T (lineCell (ruleOf l) i q)) d e (omega (arith, z, f)) h (spotOf (ruleOf l) i) (spot-in l i u)
+    line-idle l (λ q. T (lineCell (ruleOf l) i q)) k d e (omega (arith, z, f)) h (spotOf (ruleOf l) i) (spot-in l i u)
     ∙ ap T (own-cell l i u)
