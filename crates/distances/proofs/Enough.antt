@@ -1,0 +1,270 @@
+-- Enough moves: where no record has farther to go than k cells, the first k moves of a run do what more would, and of a run that goes late only the last k do anything.
+use Prim.Native.Nat.{ℕ, zero, suc, _+_, _-_, _*_, _≤_, _<_, min, max}
+use mathlib.Core.Path.{_≡_, refl, sym, ap, ap₂, _∙_, subst}
+use mathlib.Core.Logic.{_⊎_, inl, inr, ⊎-elim}
+use mathlib.Core.Bool.{Bool, true, false, cond, not}
+use native.Mathlib.Omega.{arith}
+use borrow.Author.Tests.{eq-eqb}
+use lib.Dec.{eqb}
+use Rattle.laws.proofs.Deciding.{apart}
+use Rattle.array.specs.declared.moves.Way.{Way}
+use Rattle.array.specs.declared.moves.Way.the-variants.{Right, Left, Up, Down}
+use Rattle.array.specs.Cells.{groups, cells, group, place}
+use Rattle.array.proofs.Board.{cell-of, place-in, group-in}
+use Rattle.slots.specs.declared.Rec.{Rec}
+use Rattle.slots.specs.declared.Cell.{Cell}
+use Rattle.slots.specs.Cells.{nothing, empty, joined, only}
+use Rattle.mesh.specs.declared.Leg.{Leg}
+use Rattle.mesh.specs.Lines.{headOf, reach, endOf, leaves, goersOf, stayersOf, landed, laid, ranLine, distanceOf}
+use Rattle.mesh.specs.Mesh.{strideOf, ruleOf, spotOf, lineCell, ranOn}
+use Rattle.mesh.specs.Inside.{Strided, lineStep, goneOf}
+use Rattle.mesh.proofs.Walking.{ends-up, ends-down}
+use Rattle.mesh.proofs.Spots.{Split, split, spotted, line-in, spot-shifted, lineOf}
+use Rattle.mesh.proofs.Groups.{part-fits}
+use Rattle.mesh.proofs.Counting.{upTo}
+use Rattle.distances.specs.Distances.{greatest, farOf, farIn, farthestOn, farthest}
+
+-- each is at most the greatest, and the greatest at most what none exceeds
+pub each-most : (n : ℕ) (f : ℕ → ℕ) (i : ℕ) → i < n → f i ≤ greatest n f
+unfolding greatest
+each-most zero f i h = absurd (omega arith)
+each-most (suc n) f i h =
+    ⊎-elim
+    (λ u. let z = each-most n f i u in omega arith)
+    (λ u. let e : i ≡ n = omega arith in let z : f i ≡ f n = ap f e in omega arith)
+    (apart i n)
+
+pub most-under : (n : ℕ) (f : ℕ → ℕ) (k : ℕ) → ((i : ℕ) → i < n → f i ≤ k) → greatest n f ≤ k
+unfolding greatest
+most-under zero f k h = omega arith
+most-under (suc n) f k h =
+    let y = most-under n f k (λ i u. h i (omega arith)) in
+    let z = h n (omega arith) in
+    omega (arith, y, z)
+
+-- each record's distance is at most the greatest of its line, and of the board
+pub far-on : (l : Leg) (U : ℕ → Cell) (p : ℕ) → p < l .side → farIn l p (U p) ≤ farthestOn l U
+far-on l U p h = each-most (l .side) (λ p. farIn l p (U p)) p h
+
+pub far-of : (l : Leg) (T : ℕ → Cell) (i : ℕ) → i < cells (l .side) → farIn l (spotOf (ruleOf l) i) (T i) ≤ farthest l T
+far-of l T i h = each-most (cells (l .side)) (λ i. farIn l (spotOf (ruleOf l) i) (T i)) i h
+
+pub far-front : (l : Leg) (p : ℕ) (c : Cell) {d : ℕ} → farIn l p c ≤ d → farOf l p (c .front) ≤ d
+far-front l p c h = most-left (farOf l p (c .front)) (farOf l p (c .spare)) h
+  where
+    most-left : (a b : ℕ) {d : ℕ} → max a b ≤ d → a ≤ d
+    most-left a b h = omega arith
+
+pub far-spare : (l : Leg) (p : ℕ) (c : Cell) {d : ℕ} → farIn l p c ≤ d → farOf l p (c .spare) ≤ d
+far-spare l p c h = most-right (farOf l p (c .front)) (farOf l p (c .spare)) h
+  where
+    most-right : (a b : ℕ) {d : ℕ} → max a b ≤ d → b ≤ d
+    most-right a b h = omega arith
+
+-- what holds of both slots of a cell, and of an empty one, holds of those of a part of it
+of-only : (P : Rec → Type 0) (a b : Bool) (c : Cell) → P (c .front) → P (c .spare) → P nothing → P (only a b c .front) × P (only a b c .spare)
+of-only P true true c x y z = (x, y)
+of-only P true false c x y z = (x, z)
+of-only P false true c x y z = (y, z)
+of-only P false false c x y z = (z, z)
+
+-- a choice between two that are the same
+either : {A : Type 0} (m : Bool) (c : A) → cond m c c ≡ c
+either true c = refl
+either false c = refl
+
+-- runs of a moves and of b that take a record equally far which has at most d cells to go
+module _ (l : Leg) (a b d : ℕ) (same : (n : ℕ) → n ≤ d → goneOf (ruleOf (upTo l a)) n ≡ goneOf (ruleOf (upTo l b)) n) where
+  abbrev A : Leg
+  A = upTo l a
+
+  abbrev B : Leg
+  B = upTo l b
+
+  ends-same : (q h : ℕ) → distanceOf (ruleOf l) q h ≤ d → reach (ruleOf A) h q (ruleOf A .made) ≡ reach (ruleOf B) h q (ruleOf B .made)
+  ends-same q h u =
+      ⊎-elim
+      (λ v. ends-up (ruleOf A) h q (omega arith) v ∙ ap (λ (n : ℕ). q + n) (same (distanceOf (ruleOf l) q h) u) ∙ sym (ends-up (ruleOf B) h q (omega arith) v))
+      (λ v. ends-down (ruleOf A) h q (omega arith) v ∙ ap (λ (n : ℕ). q - n) (same (distanceOf (ruleOf l) q h) u) ∙ sym (ends-down (ruleOf B) h q (omega arith) v))
+      (apart q h)
+
+  leaves-same : (q : ℕ) (x : Rec) → farOf l q x ≤ d → leaves (ruleOf A) q x ≡ leaves (ruleOf B) q x
+  unfolding leaves
+  leaves-same q x u = go (eqb (x .mark) 0) u
+    where
+      go : (m : Bool) → cond m 0 (distanceOf (ruleOf l) q (headOf (ruleOf l) x)) ≤ d → cond m false (not (eqb (endOf (ruleOf A) q x) q)) ≡ cond m false (not (eqb (endOf (ruleOf B) q x) q))
+      go true u = refl
+      go false u = ap (λ (e : ℕ). not (eqb e q)) (ends-same q (headOf (ruleOf l) x) u)
+
+  landed-same : (p q : ℕ) (x : Rec) (c : Cell) → farOf l q x ≤ d → landed (ruleOf A) p q x c ≡ landed (ruleOf B) p q x c
+  unfolding landed joined
+  landed-same p q x c u = go (eqb (x .mark) 0) u _
+    where
+      go : (m : Bool) → cond m 0 (distanceOf (ruleOf l) q (headOf (ruleOf l) x)) ≤ d → (r : Cell)
+          → cond (eqb (endOf (ruleOf A) q x) p) (cond m c r) c ≡ cond (eqb (endOf (ruleOf B) q x) p) (cond m c r) c
+      go true u r = either (eqb (endOf (ruleOf A) q x) p) c ∙ sym (either (eqb (endOf (ruleOf B) q x) p) c)
+      go false u r = ap (λ (e : ℕ). cond (eqb e p) r c) (ends-same q (headOf (ruleOf l) x) u)
+
+  goers-same : (q : ℕ) (c : Cell) → farIn l q c ≤ d → goersOf (ruleOf A) q c ≡ goersOf (ruleOf B) q c
+  unfolding goersOf
+  goers-same q c u = ap₂ (λ (f s : Bool). only f s c) (leaves-same q (c .front) (far-front l q c u)) (leaves-same q (c .spare) (far-spare l q c u))
+
+  stayers-same : (q : ℕ) (c : Cell) → farIn l q c ≤ d → stayersOf (ruleOf A) q c ≡ stayersOf (ruleOf B) q c
+  unfolding stayersOf
+  stayers-same q c u = ap₂ (λ (f s : Bool). only (not f) (not s) c) (leaves-same q (c .front) (far-front l q c u)) (leaves-same q (c .spare) (far-spare l q c u))
+
+  goers-far : (q : ℕ) (c : Cell) → farIn l q c ≤ d → (farOf l q (goersOf (ruleOf B) q c .front) ≤ d) × (farOf l q (goersOf (ruleOf B) q c .spare) ≤ d)
+  unfolding goersOf
+  goers-far q c u =
+      of-only (λ (x : Rec). farOf l q x ≤ d) (leaves (ruleOf B) q (c .front)) (leaves (ruleOf B) q (c .spare)) c (far-front l q c u) (far-spare l q c u) (omega arith)
+
+  module _ (U : ℕ → Cell) (far : (q : ℕ) → q < l .side → farIn l q (U q) ≤ d) where
+    laid-same : (p : ℕ) → p < l .side → (n : ℕ) → n ≤ l .side → laid (ruleOf A) U p n ≡ laid (ruleOf B) U p n
+    unfolding laid
+    laid-same p h zero k = stayers-same p (U p) (far p h)
+    laid-same p h (suc n) k =
+        let u = far n (omega arith) in
+        let g = goersOf (ruleOf B) n (U n) in
+        let below = laid (ruleOf B) U p n in
+        ap₂ (λ (e c : Cell). landed (ruleOf A) p n (e .spare) (landed (ruleOf A) p n (e .front) c)) (goers-same n (U n) u) (laid-same p h n (omega arith))
+        ∙ landed-same p n (g .spare) (landed (ruleOf A) p n (g .front) below) (goers-far n (U n) u .1)
+        ∙ ap (landed (ruleOf B) p n (g .spare)) (landed-same p n (g .front) below (goers-far n (U n) u .0))
+
+    pub line-same : (p : ℕ) → p < l .side → ranLine (ruleOf A) U p ≡ ranLine (ruleOf B) U p
+    line-same p h = laid-same p h (l .side) (omega arith)
+
+-- a run of which no move is made leaves a line as it is
+module _ (l : Leg) where
+  abbrev none : Leg
+  none = upTo l 0
+
+  none-ends : (q h : ℕ) → reach (ruleOf none) h q (ruleOf none .made) ≡ q
+  unfolding reach
+  none-ends q h = let e : min 0 (l .times) ≡ 0 = omega arith in ap (reach (ruleOf none) h q) e
+
+  none-leaves : (q : ℕ) (x : Rec) → leaves (ruleOf none) q x ≡ false
+  unfolding leaves
+  none-leaves q x = rw (eq-eqb (endOf (ruleOf none) q x) q (none-ends q (headOf (ruleOf none) x))) (either (eqb (x .mark) 0) false)
+
+  none-lands : (p q : ℕ) (c : Cell) → landed (ruleOf none) p q nothing c ≡ c
+  unfolding landed joined
+  none-lands p q c = either (eqb (endOf (ruleOf none) q nothing) p) c
+
+  none-goers : (q : ℕ) (c : Cell) → goersOf (ruleOf none) q c ≡ empty
+  unfolding goersOf
+  none-goers q c = ap₂ (λ (f s : Bool). only f s c) (none-leaves q (c .front)) (none-leaves q (c .spare))
+
+  none-stayers : (q : ℕ) (c : Cell) → stayersOf (ruleOf none) q c ≡ c
+  unfolding stayersOf
+  none-stayers q c = ap₂ (λ (f s : Bool). only (not f) (not s) c) (none-leaves q (c .front)) (none-leaves q (c .spare))
+
+  none-laid : (U : ℕ → Cell) (p n : ℕ) → laid (ruleOf none) U p n ≡ U p
+  unfolding laid
+  none-laid U p zero = none-stayers p (U p)
+  none-laid U p (suc n) =
+      ap₂ (λ (e c : Cell). landed (ruleOf none) p n (e .spare) (landed (ruleOf none) p n (e .front) c)) (none-goers n (U n)) (none-laid U p n)
+      ∙ none-lands p n (landed (ruleOf none) p n nothing (U p))
+      ∙ none-lands p n (U p)
+
+-- a record that has at most d cells to go is there after d moves, and going late it has not set off while d are left
+first-gone : (l : Leg) (k m : ℕ) → l .late ≡ false → k ≤ m → (n : ℕ) → n ≤ k → goneOf (ruleOf (upTo l k)) n ≡ goneOf (ruleOf (upTo l m)) n
+first-gone l k m e h n u = rw e (omega arith)
+
+last-gone : (l : Leg) (k d : ℕ) → l .late ≡ true → k ≤ l .times - d → (n : ℕ) → n ≤ d → goneOf (ruleOf (upTo l k)) n ≡ goneOf (ruleOf (upTo l 0)) n
+last-gone l k d e h n u = rw e (omega arith)
+
+-- a run of as many moves as the greatest distance on a line does to it what a longer one does
+pub line-enough : (l : Leg) (U : ℕ → Cell) (k m : ℕ) → l .late ≡ false → farthestOn l U ≤ k → k ≤ m → (p : ℕ) → p < l .side
+    → ranLine (ruleOf (upTo l k)) U p ≡ ranLine (ruleOf (upTo l m)) U p
+line-enough l U k m e f h p i = line-same l k m k (first-gone l k m e h) U (λ q u. let z = far-on l U q u in omega (arith, z, f)) p i
+
+-- of a run that goes late only as many last moves do anything to it
+pub line-idle : (l : Leg) (U : ℕ → Cell) (k d : ℕ) → l .late ≡ true → farthestOn l U ≤ d → k ≤ l .times - d → (p : ℕ) → p < l .side → ranLine (ruleOf (upTo l k)) U p ≡ U p
+line-idle l U k d e f h p i =
+    line-same l k 0 d (last-gone l k d e h) U (λ q u. let z = far-on l U q u in omega (arith, z, f)) p i
+    ∙ none-laid l U p (l .side)
+
+-- a board that has a cell has a side
+some-side : (s i : ℕ) → i < cells s → 0 < s
+some-side zero i h = absurd (omega arith)
+some-side (suc s) i h = omega arith
+
+-- the line of a cell of the board lies on it, each cell of it in its place
+module _ (l : Leg) (i : ℕ) (i< : i < cells (l .side)) where
+  some : 0 < l .side
+  some = some-side (l .side) i i<
+
+  strided : Strided (ruleOf l)
+  strided = go (l .way)
+    where
+      go : (w : Way) → (strideOf (l .side) w ≡ 1) ⊎ (strideOf (l .side) w ≡ l .side)
+      go Right = inl refl
+      go Left = inl refl
+      go Up = inr refl
+      go Down = inr refl
+
+  abbrev N : ℕ
+  N = groups (l .side)
+
+  abbrev g : ℕ
+  g = group (l .side) i
+
+  abbrev at : ℕ
+  at = place (l .side) i
+
+  -- cell q of the same line, by its group
+  abbrev inGroup : ℕ → ℕ
+  inGroup q = lineOf (ruleOf l) at * lineStep (ruleOf l) + q * ruleOf l .stride
+
+  parts : Split (ruleOf l) at
+  parts = split (ruleOf l) some strided at (place-in some i)
+
+  own-spot : spotOf (ruleOf l) i ≡ spotOf (ruleOf l) at
+  own-spot = ap (spotOf (ruleOf l)) (sym (cell-of (l .side) i)) ∙ spot-shifted (ruleOf l) some strided g at
+
+  by-group : (q : ℕ) → lineCell (ruleOf l) i q ≡ g * N + inGroup q
+  by-group q =
+      let is : g * N + at ≡ i = cell-of (l .side) i in
+      ap (λ (n : ℕ). i - n * ruleOf l .stride + q * ruleOf l .stride) own-spot ∙ omega (arith, is, parts .is)
+
+  line-on : (q : ℕ) → q < l .side → lineCell (ruleOf l) i q < cells (l .side)
+  line-on q h =
+      let fits : g * N + N ≤ N * N = part-fits N g (g * N) (group-in some i i<) refl in
+      omega (arith, by-group q, fits, line-in (ruleOf l) some strided (lineOf (ruleOf l) at) q (parts .line<) h)
+
+  line-spot : (q : ℕ) → q < l .side → spotOf (ruleOf l) (lineCell (ruleOf l) i q) ≡ q
+  line-spot q h =
+      ap (spotOf (ruleOf l)) (by-group q)
+      ∙ spot-shifted (ruleOf l) some strided g (inGroup q)
+      ∙ spotted (ruleOf l) some strided (lineOf (ruleOf l) at) q (parts .line<) h .spot
+
+  own-cell : lineCell (ruleOf l) i (spotOf (ruleOf l) i) ≡ i
+  own-cell =
+      let is : g * N + at ≡ i = cell-of (l .side) i in
+      by-group (spotOf (ruleOf l) i) ∙ ap (λ (q : ℕ). g * N + inGroup q) own-spot ∙ omega (arith, is, parts .is)
+
+  spot-in : spotOf (ruleOf l) i < l .side
+  spot-in = omega (arith, own-spot, parts .spot<)
+
+  -- so no distance on it is greater than the greatest of the board
+  pub line-most : (T : ℕ → Cell) → farthestOn l (λ q. T (lineCell (ruleOf l) i q)) ≤ farthest l T
+  line-most T = most-under (l .side) (λ q. farIn l q (T (lineCell (ruleOf l) i q))) (farthest l T) one
+    where
+      one : (q : ℕ) → q < l .side → farIn l q (T (lineCell (ruleOf l) i q)) ≤ farthest l T
+      one q h = subst (λ (p : ℕ). farIn l p (T (lineCell (ruleOf l) i q)) ≤ farthest l T) (line-spot q h) (far-of l T (lineCell (ruleOf l) i q) (line-on q h))
+
+-- a run of as many moves as the greatest distance on the board does what a longer one does
+pub enough : (l : Leg) (T : ℕ → Cell) (k m : ℕ) → l .late ≡ false → farthest l T ≤ k → k ≤ m → (i : ℕ) → i < cells (l .side)
+    → ranOn (ruleOf (upTo l k)) T i ≡ ranOn (ruleOf (upTo l m)) T i
+unfolding ranOn
+enough l T k m e f h i u =
+    let z = line-most l i u T in
+    line-enough l (λ q. T (lineCell (ruleOf l) i q)) k m e (omega (arith, z, f)) h (spotOf (ruleOf l) i) (spot-in l i u)
+
+-- of a run that goes late only as many last moves do anything
+pub idle : (l : Leg) (T : ℕ → Cell) (k d : ℕ) → l .late ≡ true → farthest l T ≤ d → k ≤ l .times - d → (i : ℕ) → i < cells (l .side) → ranOn (ruleOf (upTo l k)) T i ≡ T i
+unfolding ranOn
+idle l T k d e f h i u =
+    let z = line-most l i u T in
+    line-idle l (λ q. T (lineCell (ruleOf l) i q)) k d e (omega (arith, z, f)) h (spotOf (ruleOf l) i) (spot-in l i u)
+    ∙ ap T (own-cell l i u)

@@ -1,0 +1,1 @@
+// How far the records of a run have to go: laws only.
