@@ -1,3 +1,4 @@
+pub mod Lent
 pub mod Searching
 pub mod Sums
 pub mod Tables
