@@ -1,5 +1,5 @@
 -- How many records a swap takes to another cell.
-use Prim.Native.Nat.{ℕ, _+_}
+use Prim.Native.Nat.{ℕ}
 use mathlib.Core.Bool.{cond}
 use mathlib.Core.List.{List}
 use lib.ListN.{getD}
@@ -11,10 +11,10 @@ use Rattle.array.specs.Cells.{cells, partner}
 abbrev pub markCount : ℕ → ℕ
 markCount mark = cond (eqb mark 0) 0 1
 
--- how many leave cell i for its partner p, by the cell's marks; a cell that is its own partner keeps its records
-abbrev pub leavesOf : ℕ → ℕ → ℕ → ℕ → ℕ
-leavesOf p i mark spare = cond (eqb p i) 0 (markCount mark + markCount spare)
+-- how many leave cell i for its partner p, by the cell's mark; a cell that is its own partner keeps its record
+abbrev pub leavesOf : ℕ → ℕ → ℕ → ℕ
+leavesOf p i mark = cond (eqb p i) 0 (markCount mark)
 
 -- how many leave all cells
-abbrev pub leavingOf : ℕ → List ℕ → List ℕ → ℕ
-leavingOf s marks spares = sum (cells s) (λ i. leavesOf (partner s i) i (getD marks i 0) (getD spares i 0))
+abbrev pub leavingOf : ℕ → List ℕ → ℕ
+leavingOf s marks = sum (cells s) (λ i. leavesOf (partner s i) i (getD marks i 0))

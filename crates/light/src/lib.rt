@@ -1,4 +1,4 @@
-// A swap: every cell and its partner, at the other end of the light, exchange what they hold, in a lane of words or in all six lanes.
+// A swap: every cell and its partner, at the other end of the light, exchange what they hold, in a lane of words or in the three lanes of a slot.
 use array::cells::is_cells;
 use array::cells::is_side;
 use links::links;
@@ -9,8 +9,8 @@ ghost use lib.ListN.{length, getD};
 ghost use Rattle.array.specs.Cells.{isSide, groups, cells, cell, partner};
 ghost use Rattle.light.specs.Lane.{isBoard, swappedLane};
 ghost use Rattle.light.specs.Counts.{markCount};
-ghost use Rattle.light.specs.Lanes.{areLanes, onBoard, SwappedLanes};
-ghost use Rattle.light.specs.Inside.{Listed, GroupTurned, heldIn, lent, HasCell, TradedSlot};
+ghost use Rattle.light.specs.Slots.{areSlots, onBoard, SwappedSlots};
+ghost use Rattle.light.specs.Inside.{Listed, GroupTurned, lent, HasCell, Exchanged, TradedSlot};
 
 // A lane of n entries is one of a board.
 pub fn is_board(side: usize, n: usize) -> bool
@@ -22,17 +22,9 @@ pub fn is_board(side: usize, n: usize) -> bool
     false
 }
 
-// Six lanes of these lengths are those of a board.
-pub fn are_lanes(
-    side: usize,
-    words: usize,
-    marks: usize,
-    aims: usize,
-    spare_words: usize,
-    spare_marks: usize,
-    spare_aims: usize,
-) -> bool
-    ensures { λ r. ⌜ r ≡ areLanes side words marks aims «spare_words» «spare_marks» «spare_aims» ⌝ }
+// Three lanes of these lengths are those of a board's front slots, or of its spare ones.
+pub fn are_slots(side: usize, words: usize, marks: usize, aims: usize) -> bool
+    ensures { λ r. ⌜ r ≡ areSlots side words marks aims ⌝ }
 {
     if !is_board(side, words) {
         return false;
@@ -40,16 +32,7 @@ pub fn are_lanes(
     if !is_board(side, marks) {
         return false;
     }
-    if !is_board(side, aims) {
-        return false;
-    }
-    if !is_board(side, spare_words) {
-        return false;
-    }
-    if !is_board(side, spare_marks) {
-        return false;
-    }
-    is_board(side, spare_aims)
+    is_board(side, aims)
 }
 
 fn wide(x: u16) -> usize
@@ -144,19 +127,10 @@ fn one(mark: u8) -> usize
     if mark == 0 { 0 } else { 1 }
 }
 
-// How many records cells j and p hold.
-fn held(j: usize, p: usize, marks: &[u8], spare_marks: &[u8]) -> usize
-    requires { ⌜ (j < length (now marks)) × (j < length (now «spare_marks»)) ⌝ }
-    requires { ⌜ (p < length (now marks)) × (p < length (now «spare_marks»)) ⌝ }
-    ensures { λ r. ⌜ (r ≡ heldIn (now (marks .entry)) (now («spare_marks» .entry)) j + heldIn (now (marks .entry)) (now («spare_marks» .entry)) p) × (r ≤ 4) ⌝ }
-{
-    one(marks[j]) + one(spare_marks[j]) + (one(marks[p]) + one(spare_marks[p]))
-}
-
-// Cells j and p trade what they hold in one slot: its word, its mark and its aim.
-fn trade_slot(j: usize, p: usize, words: &mut [u32], marks: &mut [u8], aims: &mut [u16])
+// Cells j and p exchange what they hold in one slot: its word, its mark and its aim.
+fn exchange(j: usize, p: usize, words: &mut [u32], marks: &mut [u8], aims: &mut [u16])
     requires { ⌜ (j < p) × HasCell p words marks aims ⌝ }
-    ensures { λ _. ⌜ TradedSlot j p words marks aims ⌝ }
+    ensures { λ _. ⌜ Exchanged j p words × (Exchanged j p marks × Exchanged j p aims) ⌝ }
 {
     let word = words[j];
     words[j] = words[p];
@@ -169,108 +143,54 @@ fn trade_slot(j: usize, p: usize, words: &mut [u32], marks: &mut [u8], aims: &mu
     aims[p] = aim;
 }
 
-// And in both.
-fn trade_cells(
-    j: usize,
-    p: usize,
-    words: &mut [u32],
-    marks: &mut [u8],
-    aims: &mut [u16],
-    spare_words: &mut [u32],
-    spare_marks: &mut [u8],
-    spare_aims: &mut [u16],
-)
-    requires { ⌜ (j < p) × (HasCell p words marks aims × HasCell p «spare_words» «spare_marks» «spare_aims») ⌝ }
-    ensures { λ _. ⌜ TradedSlot j p words marks aims × TradedSlot j p «spare_words» «spare_marks» «spare_aims» ⌝ }
+// The turn of cell j: it trades with its partner p where that comes later. How many records are in another cell then.
+fn trade_slot(j: usize, p: usize, words: &mut [u32], marks: &mut [u8], aims: &mut [u16]) -> usize
+    requires { ⌜ HasCell j words marks aims × HasCell p words marks aims ⌝ }
+    ensures { λ r. ⌜ TradedSlot j p words marks aims r ⌝ }
 {
-    trade_slot(j, p, words, marks, aims);
-    trade_slot(j, p, spare_words, spare_marks, spare_aims);
+    if p <= j {
+        return 0;
+    }
+    let moved = one(marks[j]) + one(marks[p]);
+    exchange(j, p, words, marks, aims);
+    moved
 }
 
-// Each cell trades with its partner, where that comes later; how many records are in another cell.
-fn trade_lanes(
+// Each cell trades with its partner, where that comes later, in one slot; how many records are in another cell.
+fn trade_slots(
     side: usize,
     list: &[u16],
     words: &mut [u32],
     marks: &mut [u8],
     aims: &mut [u16],
-    spare_words: &mut [u32],
-    spare_marks: &mut [u8],
-    spare_aims: &mut [u16],
 ) -> usize
-    requires { ⌜ onBoard side (lent words marks aims «spare_words» «spare_marks» «spare_aims») ≡ true ⌝ }
+    requires { ⌜ onBoard side (lent words marks aims) ≡ true ⌝ }
     requires { ⌜ Listed side (now list) ⌝ }
-    ensures { λ r. ⌜ SwappedLanes side words marks aims «spare_words» «spare_marks» «spare_aims» r ⌝ }
+    ensures { λ r. ⌜ SwappedSlots side words marks aims r ⌝ }
 {
     let n = words.len();
     let mut moved: usize = 0;
     let mut p: usize = 0;
     let mut j: usize = 0;
     while j < n {
-        if j < p {
-            moved += held(j, p, marks, spare_marks);
-            trade_cells(
-                j,
-                p,
-                words,
-                marks,
-                aims,
-                spare_words,
-                spare_marks,
-                spare_aims,
-            );
-        }
+        moved += trade_slot(j, p, words, marks, aims);
         p = next(side, list, j, p);
         j += 1;
     }
     moved
 }
 
-// All six lanes swap; how many records are in another cell. Lanes that are not a board's stay.
-pub fn swap_lanes(
-    side: usize,
-    words: &mut [u32],
-    marks: &mut [u8],
-    aims: &mut [u16],
-    spare_words: &mut [u32],
-    spare_marks: &mut [u8],
-    spare_aims: &mut [u16],
-) -> usize
-    ensures { λ r. ⌜ SwappedLanes side words marks aims «spare_words» «spare_marks» «spare_aims» r ⌝ }
+// The lanes of the front slots, or of the spare ones, swap; how many of their records are in another cell. Lanes that are not a board's stay.
+pub fn swap_slots(side: usize, words: &mut [u32], marks: &mut [u8], aims: &mut [u16]) -> usize
+    ensures { λ r. ⌜ SwappedSlots side words marks aims r ⌝ }
 {
-    if !are_lanes(
-        side,
-        words.len(),
-        marks.len(),
-        aims.len(),
-        spare_words.len(),
-        spare_marks.len(),
-        spare_aims.len(),
-    ) {
+    if !are_slots(side, words.len(), marks.len(), aims.len()) {
         return 0;
     }
     if side == 8 {
         let list = links();
-        return trade_lanes(
-            side,
-            &list[..],
-            words,
-            marks,
-            aims,
-            spare_words,
-            spare_marks,
-            spare_aims,
-        );
+        return trade_slots(side, &list[..], words, marks, aims);
     }
     let none = [0u16; 1];
-    trade_lanes(
-        side,
-        &none[..0],
-        words,
-        marks,
-        aims,
-        spare_words,
-        spare_marks,
-        spare_aims,
-    )
+    trade_slots(side, &none[..0], words, marks, aims)
 }

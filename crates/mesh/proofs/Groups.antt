@@ -1,6 +1,6 @@
 -- The lines of a group make a run one after the other, and so do the groups of a board.
 use Prim.Native.Nat.{ℕ, suc, _+_, _-_, _*_, _/_, _%_, _≤_, _<_}
-use mathlib.Core.Path.{_≡_, refl, sym, ap, ap₂, _∙_}
+use mathlib.Core.Path.{_≡_, refl, sym, ap, ap₂, subst, _∙_}
 use mathlib.Core.Logic.{⊎-elim}
 use mathlib.Core.Bool.{Bool, true, false, cond}
 use mathlib.Core.List.{List}
@@ -11,6 +11,7 @@ use borrow.Author.Tests.{lt-ltb, le-ltb}
 use lib.Dec.{eqb, ltb}
 use lib.ListN.{length, getD}
 use denote.Ref.{now}
+use Rattle.laws.specs.Lent.{Lent}
 use Rattle.laws.specs.Sums.{sum}
 use Rattle.laws.proofs.Sums.{sum-cong, sum-add, sum-blocks}
 use Rattle.laws.proofs.Totals.{sum-few, sum-swap}
@@ -19,13 +20,11 @@ use Rattle.array.specs.Cells.{groups, cells, group}
 use Rattle.array.proofs.Board.{group-of}
 use Rattle.slots.specs.declared.Rec.{Rec}
 use Rattle.slots.specs.declared.Cell.{Cell}
-use Rattle.light.specs.Lanes.{Lent}
-use Rattle.slots.specs.Lanes.{Slice}
 use Rattle.mesh.specs.declared.lines.Rule.{Rule}
 use Rattle.mesh.specs.Lines.{headOf, leaves, distanceOf, ranLine, wentOf, wentFrom}
-use Rattle.mesh.specs.Mesh.{spotOf, lineCell, ranOn, wentIn}
-use Rattle.mesh.specs.Inside.{Strided, lineStep, Lies, RanLine, RanGroup, RanPart, RanGroups}
-use Rattle.mesh.proofs.Lifting.{distinct}
+use Rattle.mesh.specs.Mesh.{spotOf, ranOn, wentIn, RanLanes}
+use Rattle.mesh.specs.Inside.{Strided, lineStep, Lies, RanLine, RanGroup, RanPart}
+use Rattle.mesh.proofs.Slots.{distinct}
 use Rattle.mesh.proofs.Spots.{by-stride, run-same, lineOf, Spotted, Split, spotted, split, line-in, line-cell, ran-spotted, ran-part, spot-shifted}
 
 -- few records leave a cell, and so a line and a group
@@ -57,11 +56,11 @@ lined-few {t} {l} {T} few z d h =
     omega (arith, few, sum-few (λ p. wentFrom t d p (T (k * lineStep t + p * t .stride))) 2 (λ p. cell-few t d p (T (k * lineStep t + p * t .stride))) (t .side)) in
     omega (arith, z .count d h, z .upto, few, sum-few (λ k. sum (t .side) (λ p. wentFrom t d p (T (k * lineStep t + p * t .stride)))) 16 a l)
 
-pub line-lies : (t : Rule) → 0 < t .side → Strided t → groups (t .side) ≤ 64 → (l : ℕ) → l < t .side → Lies t (groups (t .side)) (l * lineStep t)
-line-lies t pos z few l h = record { inside = λ p u. line-in t pos z l p h u; short = few }
+pub line-lies : (t : Rule) → 0 < t .side → t .side ≤ 8 → 0 < t .stride → Strided t → groups (t .side) ≤ 64 → (l : ℕ) → l < t .side → Lies t (groups (t .side)) (l * lineStep t)
+line-lies t pos most stride z few l h = record { inside = λ p u. line-in t pos z l p h u; short = few; few = most; stride = stride }
 
 module _ {t : Rule} {l : ℕ} {T C C′ : ℕ → Cell} {old now₁ : List ℕ} {counts : Lent} (pos : 0 < t .side) (stride : 0 < t .stride) (z : Strided t) (h : l < t .side)
-    (y : Lined t l T C old now₁) (r : RanLine t (l * lineStep t) C C′ counts) where
+    (y : Lined t l T C old now₁) (r : RanLine t (l * lineStep t) counts C C′) where
   abbrev start : ℕ
   start = l * lineStep t
 
@@ -105,7 +104,7 @@ by-cells t pos z f =
     ∙ sym (sum-blocks (t .side) (t .side) f)))
 
 pub lined-end : {t : Rule} {l : ℕ} {T C : ℕ → Cell} {old : List ℕ} {counts : Lent} → 0 < t .side → Strided t → t .side ≤ l → old ≡ now (counts .entry)
-    → Lined t l T C old (now (counts .exit)) → RanGroup t T C counts
+    → Lined t l T C old (now (counts .exit)) → RanGroup t counts T C
 lined-end {t} {l} {T} {C} {old} {counts} pos z h e y =
     let f : l ≡ t .side = omega (arith, y .upto) in
     record {
@@ -151,7 +150,7 @@ module _ {t : Rule} {g base : ℕ} {T C : ℕ → Cell} {now₁ : List ℕ} (pos
       (sym (ran-part t pos strided g (λ k. C (g * N + k)) C (λ k u. refl) i h)
       ∙ ran-part t pos strided g (λ k. C (g * N + k)) T (λ k u. rw (z .upto) at (still k u)) i h)
 
-  pub ranged-step : {C′ : ℕ → Cell} {counts : Lent} → now (counts .entry) ≡ now₁ → length (now (counts .exit)) ≡ 8 → RanPart t base C C′ counts
+  pub ranged-step : {C′ : ℕ → Cell} {counts : Lent} → now (counts .entry) ≡ now₁ → length (now (counts .exit)) ≡ 8 → RanPart t base counts C C′
       → Ranged t (g + 1) (base + groups (t .side)) T C′ (now (counts .exit))
   ranged-step {C′} {counts} e k m = record {
     upto = omega (arith, z .upto, suc-mul g N);
@@ -172,10 +171,16 @@ module _ {t : Rule} {g base : ℕ} {T C : ℕ → Cell} {now₁ : List ℕ} (pos
       above : (i : ℕ) → i < cells (t .side) → base + N ≤ i → C′ i ≡ cond (ltb i (base + N)) (ranOn t T i) (T i)
       above i u h = rw (le-ltb i (base + N) h) (m .after i h ∙ (rw (le-ltb i base (omega arith)) at (z .made i u)))
 
-pub ranged-end : {t : Rule} {g base : ℕ} {T C : ℕ → Cell} {counts : Lent} → groups (t .side) ≤ g → Ranged t g base T C (now (counts .exit)) → RanGroups t T C counts
-ranged-end {t} {g} {base} {T} h z =
+pub never : {b : Bool} → b ≡ true → b ≡ false → ⊥
+never u v = let z : _≡_ {A = ℕ} 0 1 = cc in omega arith
+
+pub ranged-end : {lanes : Bool} {t u : Rule} {g base : ℕ} {T C : ℕ → Cell} {counts : List ℕ} → lanes ≡ true → t ≡ u → groups (t .side) ≤ g → Ranged t g base T C counts → RanLanes lanes u counts T C
+ranged-end {lanes} {t} {u} {g} {base} {T} {C} {counts} e f h z =
     let b : base ≡ cells (t .side) = z .upto ∙ ap (λ (n : ℕ). n * groups (t .side)) (omega (arith, z .within)) in
-    record {
-      made = λ i u. rw (lt-ltb i base (omega arith)) at (z .made i u);
-      went = λ d u. z .count d u ∙ ap (λ (n : ℕ). sum n (λ i. wentFrom t d (spotOf t i) (T i))) b;
-    }
+    subst (λ (u : Rule). RanLanes lanes u counts T C) f
+    (record {
+      made = λ y i v. rw (lt-ltb i base (omega arith)) at (z .made i v);
+      went = λ y d v. z .count d v ∙ ap (λ (n : ℕ). sum n (λ i. wentFrom t d (spotOf t i) (T i))) b;
+      kept = λ y. absurd (never e y);
+      none = λ y. absurd (never e y);
+    })

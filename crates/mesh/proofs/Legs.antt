@@ -1,25 +1,23 @@
 -- The rule of a leg is one of a board, and a run of all groups is a run of the board.
 use Prim.Native.Nat.{ℕ, zero, suc, _+_, _*_, _≤_, _<_, min}
-use mathlib.Core.Path.{_≡_, refl, sym, ap, _∙_, subst}
+use mathlib.Core.Path.{_≡_, refl, sym, ap, _∙_}
 use mathlib.Core.Logic.{_⊎_, inl, inr}
 use mathlib.Core.Bool.{Bool, true, false}
 use mathlib.Core.List.{List}
 use native.Mathlib.Nat.{mul-pos, mul-assoc, one-mul, mul-one, mul-le-mul}
 use native.Mathlib.Omega.{arith}
 use lib.ListN.{getD, replicate}
-use denote.Ref.{now}
 use Rattle.array.specs.declared.moves.Way.{Way}
 use Rattle.array.specs.declared.moves.Way.the-variants.{Right, Left, Up, Down}
 use Rattle.array.specs.Cells.{isSide, groups, cells, group, place}
 use Rattle.array.proofs.Board.{Side, side-known, cell-of, place-in, group-in}
 use Rattle.slots.specs.declared.Cell.{Cell}
-use Rattle.light.specs.Lanes.{Lent}
 use Rattle.mesh.specs.declared.lines.Rule.{Rule}
 use Rattle.mesh.specs.declared.Leg.{Leg}
 use Rattle.mesh.specs.Mesh.{strideOf, unitOf, ruleOf, ranOn, RanLanes}
-use Rattle.mesh.specs.Inside.{shareOf, Ruled, Strided, RanGroups}
+use Rattle.mesh.specs.Inside.{shareOf, Ruled, Strided}
 use Rattle.mesh.proofs.Spots.{ran-part}
-use Rattle.mesh.proofs.Groups.{part-fits}
+use Rattle.mesh.proofs.Groups.{part-fits, never}
 
 -- the digits of an aim are those of a number below 4,096
 module _ {s : ℕ} (k : Side s) where
@@ -88,13 +86,5 @@ no-counts zero d = refl
 no-counts (suc n) zero = refl
 no-counts (suc n) (suc d) = no-counts n d
 
-never : {b : Bool} → b ≡ true → b ≡ false → ⊥
-never u v = let z : _≡_ {A = ℕ} 0 1 = cc in omega arith
-
-pub ran-none : {lanes : Bool} {t : Rule} {T : ℕ → Cell} → lanes ≡ false → RanLanes lanes t T T (replicate 8 0)
+pub ran-none : {lanes : Bool} {t : Rule} {T : ℕ → Cell} → lanes ≡ false → RanLanes lanes t (replicate 8 0) T T
 ran-none e = record { made = λ h. absurd (never h e); went = λ h. absurd (never h e); kept = λ h i. refl; none = λ h d u. no-counts 8 d }
-
-pub ran-all : {lanes : Bool} {t u : Rule} {T C : ℕ → Cell} {counts : Lent} {r : List ℕ} → lanes ≡ true → t ≡ u → now (counts .exit) ≡ r → RanGroups t T C counts → RanLanes lanes u T C r
-ran-all {lanes} {t} {u} {T} {C} {counts} {r} e f g z =
-    subst (λ (u : Rule). RanLanes lanes u T C r) f
-    (record { made = λ h. z .made; went = λ h d v. ap (λ (l : List ℕ). getD l d 0) (sym g) ∙ z .went d v; kept = λ h. absurd (never e h); none = λ h. absurd (never e h) })

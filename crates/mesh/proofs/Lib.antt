@@ -3,8 +3,8 @@ pub mod Fractions
 pub mod Groups
 pub mod Laying
 pub mod Legs
-pub mod Lifting
 pub mod Parts
 pub mod Ruling
+pub mod Slots
 pub mod Spots
 pub mod Walking

@@ -6,12 +6,12 @@ use native.Mathlib.Omega.{arith}
 use lib.ListN.{length, getD, take, drop, length-drop, List·getD-append}
 use lib.Seq.{getD-take, getD-drop, getD-append-add, length-take-le}
 use denote.Ref.{now}
+use Rattle.laws.specs.Lent.{Lent}
 use Rattle.laws.specs.Sums.{sum}
 use Rattle.laws.proofs.Sums.{sum-cong}
 use Rattle.array.specs.Cells.{groups}
 use Rattle.slots.specs.declared.Cell.{Cell}
 use Rattle.slots.specs.Cells.{cellAt, Sized}
-use Rattle.light.specs.Lanes.{Lent}
 use Rattle.slots.proofs.Stored.{cell-ext}
 use Rattle.mesh.specs.declared.lines.Rule.{Rule}
 use Rattle.mesh.specs.Lines.{wentFrom}
@@ -149,7 +149,7 @@ module _
         (getD-back-after base k m₂ u₂ (omega arith) (z′ .marks2) j h′)
         (getD-back-after base k a₂ v₂ (omega arith) (z′ .aims2) j h′)
 
-    pub part-ran : {run counts : Lent} → now (run .entry) ≡ now (counts .entry) → now (run .exit) ≡ now (counts .exit) → RanGroup t Part (cellAt y u v y₂ u₂ v₂) run → RanPart t base Whole Back counts
+    pub part-ran : {run counts : Lent} → now (run .entry) ≡ now (counts .entry) → now (run .exit) ≡ now (counts .exit) → RanGroup t run Part (cellAt y u v y₂ u₂ v₂) → RanPart t base counts Whole Back
     part-ran old new q = record {
       made = λ i h. cell-back i h ∙ q .made i h ∙ ran-part t pos strided g Part Whole in-part i h ∙ ap (λ (n : ℕ). ranOn t Whole (n + i)) (sym b);
       before = cell-before;

@@ -12,19 +12,22 @@ use Rattle.laws.proofs.Deciding.{same?}
 use Rattle.array.specs.Cells.{groups}
 use Rattle.slots.specs.declared.Cell.{Cell}
 use Rattle.mesh.specs.declared.lines.Rule.{Rule}
-use Rattle.mesh.specs.Lines.{goersOf, stayersOf, landed, laid, ranLine}
+use Rattle.mesh.specs.Lines.{noneLeaves, landed, laid, ranLine}
 use Rattle.mesh.specs.Mesh.{spotOf, lineCell, ranOn}
 use Rattle.mesh.specs.Inside.{Strided, lineStep}
+use Rattle.mesh.proofs.Slots.{leaves-same}
 
 -- a run of a line looks at the line's cells only
-laid-same : (t : Rule) {U W : ℕ → Cell} → ((q : ℕ) → q < t .side → U q ≡ W q) → (p : ℕ) → p < t .side → (n : ℕ) → n ≤ t .side → laid t U p n ≡ laid t W p n
+pub laid-same : (t : Rule) {U W : ℕ → Cell} → ((q : ℕ) → q < t .side → U q ≡ W q) → (p n : ℕ) → n ≤ t .side → laid t U p n ≡ laid t W p n
 unfolding laid
-laid-same t e p h zero l = ap (stayersOf t p) (e p h)
-laid-same t e p h (suc n) l =
-    ap₂ (λ (c d : Cell). landed t p n (goersOf t n c .spare) (landed t p n (goersOf t n c .front) d)) (e n (omega arith)) (laid-same t e p h n (omega arith))
+laid-same t e p zero l = refl
+laid-same t e p (suc n) l = ap₂ (λ (c d : Cell). landed t p n (c .spare) (landed t p n (c .front) d)) (e n (omega arith)) (laid-same t e p n (omega arith))
 
 pub run-same : (t : Rule) {U W : ℕ → Cell} → ((q : ℕ) → q < t .side → U q ≡ W q) → (p : ℕ) → p < t .side → ranLine t U p ≡ ranLine t W p
-run-same t e p h = laid-same t e p h (t .side) (omega arith)
+run-same t {U} {W} e p h =
+    let f = leaves-same t (λ q. U q .front) (λ q. W q .front) (t .side) (λ q u. (ap (λ (c : Cell). c .front .mark) (e q u), ap (λ (c : Cell). c .front .aim) (e q u))) in
+    let g = leaves-same t (λ q. U q .spare) (λ q. W q .spare) (t .side) (λ q u. (ap (λ (c : Cell). c .spare .mark) (e q u), ap (λ (c : Cell). c .spare .aim) (e q u))) in
+    rw (f, g, e p h, laid-same t e p (t .side) (omega arith))
 
 -- which line of its group a cell is on
 abbrev pub lineOf : Rule → ℕ → ℕ

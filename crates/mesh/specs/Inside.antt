@@ -1,5 +1,5 @@
 -- What private functions' contracts cite; the public contracts are read without it.
-use Prim.Native.Nat.{ℕ, zero, suc, _+_, _-_, _*_, _/_, _≤_, _<_, min}
+use Prim.Native.Nat.{ℕ, zero, suc, _+_, _-_, _*_, _/_, _%_, _≤_, _<_, min}
 use mathlib.Core.Path.{_≡_}
 use mathlib.Core.Bool.{Bool, true, false, cond}
 use mathlib.Core.Logic.{_⊎_}
@@ -7,16 +7,16 @@ use mathlib.Core.List.{List}
 use lib.Dec.{eqb, ltb}
 use lib.ListN.{length, getD}
 use denote.Ref.{now}
+use Rattle.laws.specs.Lent.{Slice, Lent, old, new}
 use Rattle.laws.specs.Sums.{sum}
 use Rattle.array.specs.Cells.{isSide, groups, cells}
 use Rattle.slots.specs.declared.Rec.{Rec}
 use Rattle.slots.specs.declared.Cell.{Cell}
-use Rattle.slots.specs.Cells.{empty, joined}
-use Rattle.light.specs.Lanes.{Lent}
-use Rattle.slots.specs.Lanes.{Slice}
+use Rattle.slots.specs.Cells.{nothing, empty, recordIn}
 use Rattle.mesh.specs.declared.lines.Rule.{Rule}
-use Rattle.mesh.specs.Lines.{headOf, endOf, leaves, goersOf, stayersOf, ranLine, distanceOf, wentFrom}
-use Rattle.mesh.specs.Mesh.{spotOf, ranOn, wentIn}
+use Rattle.mesh.specs.declared.lines.Arrival.{Arrival}
+use Rattle.mesh.specs.Lines.{reach, landed, ranLine, distanceOf, wentOf, wentFrom}
+use Rattle.mesh.specs.Mesh.{spotOf, ranOn}
 
 -- 2^32 over a period, and one: a 16-bit number times it tells, below 2^32, how far along its period the number is
 abbrev pub shareOf : ℕ → ℕ
@@ -39,6 +39,8 @@ pub record Ruled (t : Rule) (share : ℕ) : Type 0 where
 pub record Lies (t : Rule) (n start : ℕ) : Type 0 where
   pub inside : (p : ℕ) → p < t .side → start + p * t .stride < n
   pub short : n ≤ 64
+  pub few : t .side ≤ 8
+  pub stride : 0 < t .stride
 
 -- a line is a row or a column of a group
 abbrev pub Strided : Rule → Type 0
@@ -48,86 +50,81 @@ Strided t = (t .stride ≡ 1) ⊎ (t .stride ≡ t .side)
 abbrev pub lineStep : Rule → ℕ
 lineStep t = cond (eqb (t .stride) 1) (t .side) 1
 
--- eight counts of nothing
-pub record Cleared (counts : Slice) : Type 0 where
-  pub long : length (now counts) ≡ 8
-  pub none : (d : ℕ) → getD (now counts) d 0 ≡ 0
-
 -- counts that leave room
 pub record Roomy (most : ℕ) (counts : Slice) : Type 0 where
   pub long : length (now counts) ≡ 8
   pub room : (d : ℕ) → d < 8 → getD (now counts) d 0 ≤ most
 
--- a record by its mark and aim stays in cell p, whatever its word
-abbrev pub Stays : Rule → ℕ → List ℕ → List ℕ → ℕ → Type 0
-Stays t p marks aims at = (word : ℕ) → leaves t p (record { word = word; mark = getD marks at 0; aim = getD aims at 0 }) ≡ false
+-- the records of a line's slots by their marks and aims alone
+abbrev pub slotsAt : Rule → ℕ → List ℕ → List ℕ → ℕ → Rec
+slotsAt t start marks aims p = record { word = 0; mark = getD marks (start + p * t .stride) 0; aim = getD aims (start + p * t .stride) 0 }
 
--- nothing leaves the cells of the line before r
-pub record NoneBefore (t : Rule) (start : ℕ) (marks aims marks₂ aims₂ : List ℕ) (r : ℕ) : Type 0 where
-  pub within : r ≤ t .side
-  pub front : (p : ℕ) → p < r → Stays t p marks aims (start + p * t .stride)
-  pub spare : (p : ℕ) → p < r → Stays t p marks₂ aims₂ (start + p * t .stride)
+-- the three lanes of a slot have n cells
+pub record HasSlots (n : ℕ) (w m a : Slice) : Type 0 where
+  pub words : length (now w) ≡ n
+  pub marks : length (now m) ≡ n
+  pub aims : length (now a) ≡ n
 
-abbrev pub FirstGoer : Rule → ℕ → Lent → Lent → Lent → Lent → ℕ → Type 0
-FirstGoer t start m a m₂ a₂ r = NoneBefore t start (now (m .entry)) (now (a .entry)) (now (m₂ .entry)) (now (a₂ .entry)) r
+-- the record of a slot
+abbrev pub slotOf : Bool → Cell → Rec
+slotOf true c = c .spare
+slotOf false c = c .front
 
--- what leaves cell p of the line, at `at`, was taken out
-pub record LiftedCell (t : Rule) (p at : ℕ) (T T′ : ℕ → Cell) (r : Cell) : Type 0 where
-  pub made : (j : ℕ) → T′ j ≡ cond (eqb j at) (stayersOf t p (T at)) (T j)
-  pub held : r ≡ goersOf t p (T at)
+-- the slots of a line were taken
+pub record Taken (t : Rule) (start : ℕ) (S : ℕ → Rec) (r : List Rec) : Type 0 where
+  pub is : (p : ℕ) → p < t .side → getD r p nothing ≡ S (start + p * t .stride)
 
--- the same for all cells of the line from one on
-pub record LiftedLine (t : Rule) (start from : ℕ) (T T′ : ℕ → Cell) (r : List Cell) : Type 0 where
-  pub made : (p : ℕ) → from ≤ p → p < t .side → T′ (start + p * t .stride) ≡ stayersOf t p (T (start + p * t .stride))
-  pub kept : (j : ℕ) → ((p : ℕ) → from ≤ p → p < t .side → j ≡ start + p * t .stride → ⊥) → T′ j ≡ T j
-  pub held : (p : ℕ) → from ≤ p → p < t .side → getD r p empty ≡ goersOf t p (T (start + p * t .stride))
+abbrev pub TakenSlots : Rule → ℕ → Lent → Lent → Lent → List Rec → Type 0
+TakenSlots t start w m a r = Taken t start (recordIn (old w) (old m) (old a)) r
 
--- 1 for a record that has d cells to go, 0 for none
-abbrev pub oneOf : Rule → ℕ → ℕ → Rec → ℕ
-oneOf t d p x = cond (eqb (x .mark) 0) 0 (cond (eqb d (distanceOf t p (headOf t x))) 1 0)
+-- they were laid, and nothing else changed
+pub record Laid (t : Rule) (start n : ℕ) (x : ℕ → Rec) (S S′ : ℕ → Rec) : Type 0 where
+  pub made : (p : ℕ) → p < n → S′ (start + p * t .stride) ≡ x p
+  pub kept : (j : ℕ) → ((p : ℕ) → p < n → j ≡ start + p * t .stride → ⊥) → S′ j ≡ S j
 
--- a record that left cell p of the line was put down, and counted
-pub record PutDown (t : Rule) (start p : ℕ) (x : Rec) (T T′ : ℕ → Cell) (counts : Lent) : Type 0 where
-  pub made : (j : ℕ) → T′ j ≡ cond (eqb j (start + endOf t p x * t .stride)) (joined (T j) x) (T j)
-  pub count : (d : ℕ) → d < 8 → getD (now (counts .exit)) d 0 ≡ getD (now (counts .entry)) d 0 + oneOf t d p x
+abbrev pub LaidSlots : Rule → ℕ → Bool → List Cell → Lent → Lent → Lent → Type 0
+LaidSlots t start spare line w m a =
+    Laid t start (t .side) (λ p. slotOf spare (getD line p empty)) (recordIn (old w) (old m) (old a)) (recordIn (new w) (new m) (new a))
 
--- the same for both records of a cell
-abbrev pub putAt : Rule → ℕ → ℕ → Rec → (ℕ → Cell) → ℕ → Cell
-putAt t start p x T j = cond (eqb j (start + endOf t p x * t .stride)) (joined (T j) x) (T j)
+-- the cells of a line by its slots
+abbrev pub cellsOf : List Rec → List Rec → ℕ → Cell
+cellsOf fronts spares p = record { front = getD fronts p nothing; spare = getD spares p nothing }
 
-pub record PutCell (t : Rule) (start p : ℕ) (c : Cell) (T T′ : ℕ → Cell) (counts : Lent) : Type 0 where
-  pub made : (j : ℕ) → T′ j ≡ putAt t start p (c .spare) (putAt t start p (c .front) T) j
-  pub count : (d : ℕ) → d < 8 → getD (now (counts .exit)) d 0 ≡ getD (now (counts .entry)) d 0 + (oneOf t d p (c .front) + oneOf t d p (c .spare))
+-- slot k of a line, front and spare by turns, and the cell that it is of
+abbrev pub slotIn : (ℕ → Cell) → ℕ → Rec
+slotIn U k = slotOf (eqb (k % 2) 1) (U (k / 2))
 
--- cell j of the table once what was lifted out of the cells of the line from `from` on, q of them, is put down
-unfoldable pub putFrom : Rule → ℕ → ℕ → List Cell → (ℕ → Cell) → ℕ → ℕ → Cell
-putFrom t start from held T zero j = T j
-putFrom t start from held T (suc q) j =
-    putAt t start (from + q) (getD held (from + q) empty .spare) (putAt t start (from + q) (getD held (from + q) empty .front) (putFrom t start from held T q)) j
+-- cell j once the records of the first k slots are put down
+unfoldable pub settled : Rule → (ℕ → Cell) → ℕ → ℕ → Cell
+settled t U j zero = empty
+settled t U j (suc k) = landed t j (k / 2) (slotIn U k) (settled t U j k)
 
-pub record PutLine (t : Rule) (start from : ℕ) (held : List Cell) (T T′ : ℕ → Cell) (counts : Lent) : Type 0 where
-  pub made : (j : ℕ) → T′ j ≡ putFrom t start from held T (t .side - from) j
-  pub count : (d : ℕ) → d < 8 → getD (now (counts .exit)) d 0 ≡ getD (now (counts .entry)) d 0 + sum (t .side - from) (λ q. oneOf t d (from + q) (getD held (from + q) empty .front) + oneOf t d (from + q) (getD held (from + q) empty .spare))
+pub record Settled (t : Rule) (U : ℕ → Cell) (n : ℕ) (counts counts′ : List ℕ) (line : List Cell) : Type 0 where
+  pub made : (j : ℕ) → j < 8 → getD line j empty ≡ settled t U j n
+  pub count : (d : ℕ) → d < 8 → getD counts′ d 0 ≡ getD counts d 0 + sum n (λ k. wentOf t d (k / 2) (slotIn U k))
+
+-- where a record of cell p goes that heads for cell h
+pub record Lands (t : Rule) (p h : ℕ) (r : Arrival) : Type 0 where
+  pub far : r .far ≡ distanceOf t p h
+  pub few : r .far < 8
+  pub at : r .at ≡ reach t h p (t .made)
+  pub on : r .at < t .side
+  pub went : r .went ≡ cond (eqb (r .at) p) 0 1
 
 -- a line made its moves, and nothing else changed
-pub record RanLine (t : Rule) (start : ℕ) (T T′ : ℕ → Cell) (counts : Lent) : Type 0 where
+pub record RanLine (t : Rule) (start : ℕ) (counts : Lent) (T T′ : ℕ → Cell) : Type 0 where
   pub made : (p : ℕ) → p < t .side → T′ (start + p * t .stride) ≡ ranLine t (λ q. T (start + q * t .stride)) p
   pub kept : (j : ℕ) → ((p : ℕ) → p < t .side → j ≡ start + p * t .stride → ⊥) → T′ j ≡ T j
-  pub count : (d : ℕ) → d < 8 → getD (now (counts .exit)) d 0 ≡ getD (now (counts .entry)) d 0 + sum (t .side) (λ p. wentFrom t d p (T (start + p * t .stride)))
+  pub count : (d : ℕ) → d < 8 → getD (new counts) d 0 ≡ getD (old counts) d 0 + sum (t .side) (λ p. wentFrom t d p (T (start + p * t .stride)))
 
 -- a group did
-pub record RanGroup (t : Rule) (T T′ : ℕ → Cell) (counts : Lent) : Type 0 where
+pub record RanGroup (t : Rule) (counts : Lent) (T T′ : ℕ → Cell) : Type 0 where
   pub made : (i : ℕ) → i < groups (t .side) → T′ i ≡ ranOn t T i
-  pub count : (d : ℕ) → d < 8 → getD (now (counts .exit)) d 0 ≡ getD (now (counts .entry)) d 0 + sum (groups (t .side)) (λ i. wentFrom t d (spotOf t i) (T i))
+  pub count : (d : ℕ) → d < 8 → getD (new counts) d 0 ≡ getD (old counts) d 0 + sum (groups (t .side)) (λ i. wentFrom t d (spotOf t i) (T i))
 
 -- the group of the cells from base on did, and no other
-pub record RanPart (t : Rule) (base : ℕ) (T T′ : ℕ → Cell) (counts : Lent) : Type 0 where
+pub record RanPart (t : Rule) (base : ℕ) (counts : Lent) (T T′ : ℕ → Cell) : Type 0 where
   pub made : (i : ℕ) → i < groups (t .side) → T′ (base + i) ≡ ranOn t T (base + i)
   pub before : (j : ℕ) → j < base → T′ j ≡ T j
   pub after : (j : ℕ) → base + groups (t .side) ≤ j → T′ j ≡ T j
-  pub count : (d : ℕ) → d < 8 → getD (now (counts .exit)) d 0 ≡ getD (now (counts .entry)) d 0 + sum (groups (t .side)) (λ i. wentFrom t d (spotOf t (base + i)) (T (base + i)))
-
--- all groups did
-pub record RanGroups (t : Rule) (T T′ : ℕ → Cell) (counts : Lent) : Type 0 where
-  pub made : (i : ℕ) → i < cells (t .side) → T′ i ≡ ranOn t T i
-  pub went : (d : ℕ) → d < 8 → getD (now (counts .exit)) d 0 ≡ wentIn t d T
+  pub count : (d : ℕ) → d < 8 → getD (new counts) d 0 ≡ getD (old counts) d 0 + sum (groups (t .side)) (λ i. wentFrom t d (spotOf t (base + i)) (T (base + i)))

@@ -4,7 +4,7 @@ use mathlib.Core.Bool.{Bool, true, false, cond, not, _&&_}
 use lib.Dec.{ltb, eqb}
 use Rattle.slots.specs.declared.Rec.{Rec}
 use Rattle.slots.specs.declared.Cell.{Cell}
-use Rattle.slots.specs.Cells.{joined, only}
+use Rattle.slots.specs.Cells.{empty, joined}
 use Rattle.mesh.specs.declared.lines.Rule.{Rule}
 
 -- the digit of weight u of a number in base s: of an aim it tells the cell of the line that the record heads for, of a cell which of its line it is
@@ -35,25 +35,27 @@ endOf t p x = reach t (headOf t x) p (t .made)
 unfoldable pub leaves : Rule → ℕ → Rec → Bool
 leaves t p x = cond (eqb (x .mark) 0) false (not (eqb (endOf t p x) p))
 
--- what leaves cell p, and what stays there
-unfoldable pub goersOf : Rule → ℕ → Cell → Cell
-goersOf t p c = only (leaves t p (c .front)) (leaves t p (c .spare)) c
+-- whether none of the records S leaves the first n cells of a line
+unfoldable pub noneLeaves : Rule → (ℕ → Rec) → ℕ → Bool
+noneLeaves t S zero = true
+noneLeaves t S (suc n) = noneLeaves t S n && not (leaves t n (S n))
 
-unfoldable pub stayersOf : Rule → ℕ → Cell → Cell
-stayersOf t p c = only (not (leaves t p (c .front))) (not (leaves t p (c .spare))) c
+-- no record leaves its cell
+abbrev pub isStill : Rule → (ℕ → Cell) → Bool
+isStill t U = noneLeaves t (λ q. U q .front) (t .side) && noneLeaves t (λ q. U q .spare) (t .side)
 
--- cell p once a record that left cell q is put down: with it, where its way ends there
+-- cell p once a record of cell q is put down: with it, where its way ends there
 unfoldable pub landed : Rule → ℕ → ℕ → Rec → Cell → Cell
 landed t p q x c = cond (eqb (endOf t q x) p) (joined c x) c
 
--- what cell p holds once all that left the first q cells is put down
+-- what cell p holds of the records of the first q cells, each put down where its way ends
 unfoldable pub laid : Rule → (ℕ → Cell) → ℕ → ℕ → Cell
-laid t U p zero = stayersOf t p (U p)
-laid t U p (suc q) = landed t p q (goersOf t q (U q) .spare) (landed t p q (goersOf t q (U q) .front) (laid t U p q))
+laid t U p zero = empty
+laid t U p (suc q) = landed t p q (U q .spare) (landed t p q (U q .front) (laid t U p q))
 
--- cell p of a line after the moves
+-- cell p of a line after the moves; a line that nothing leaves is left alone
 abbrev pub ranLine : Rule → (ℕ → Cell) → ℕ → Cell
-ranLine t U p = laid t U p (t .side)
+ranLine t U p = cond (isStill t U) (U p) (laid t U p (t .side))
 
 -- 1 where a record that began the run in cell p goes in move j, else 0
 unfoldable pub goesAt : Rule → ℕ → ℕ → Rec → ℕ

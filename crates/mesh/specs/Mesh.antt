@@ -8,7 +8,9 @@ use Rattle.laws.specs.Sums.{sum}
 use Rattle.array.specs.declared.moves.Way.{Way}
 use Rattle.array.specs.declared.moves.Way.the-variants.{Right, Left, Up, Down}
 use Rattle.array.specs.Cells.{groups, cells}
+use Rattle.laws.specs.Lent.{Lent}
 use Rattle.slots.specs.declared.Cell.{Cell}
+use Rattle.slots.specs.Lanes.{haveBoard, FromTo}
 use Rattle.mesh.specs.declared.lines.Rule.{Rule}
 use Rattle.mesh.specs.declared.Leg.{Leg}
 use Rattle.mesh.specs.Lines.{digitOf, ranLine, goesAt, wentFrom}
@@ -70,8 +72,11 @@ abbrev pub wentIn : Rule → ℕ → (ℕ → Cell) → ℕ
 wentIn t d T = sum (cells (t .side)) (λ i. wentFrom t d (spotOf t i) (T i))
 
 -- the lanes of a board after a run, and how many records went that had so far to go; on any others nothing was done
-pub record RanLanes (lanes : Bool) (t : Rule) (T T′ : ℕ → Cell) (r : List ℕ) : Type 0 where
+pub record RanLanes (lanes : Bool) (t : Rule) (r : List ℕ) (T T′ : ℕ → Cell) : Type 0 where
   pub made : lanes ≡ true → (i : ℕ) → i < cells (t .side) → T′ i ≡ ranOn t T i
   pub went : lanes ≡ true → (d : ℕ) → d < 8 → getD r d 0 ≡ wentIn t d T
   pub kept : lanes ≡ false → (i : ℕ) → T′ i ≡ T i
   pub none : lanes ≡ false → (d : ℕ) → d < 8 → getD r d 0 ≡ 0
+
+abbrev pub RanAll : Leg → Lent → Lent → Lent → Lent → Lent → Lent → List ℕ → Type 0
+RanAll l w m a w₂ m₂ a₂ r = FromTo (RanLanes (haveBoard (l .side) w m a w₂ m₂ a₂) (ruleOf l) r) w m a w₂ m₂ a₂

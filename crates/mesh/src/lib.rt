@@ -5,15 +5,14 @@ mod lines;
 use crate::lines::Rule;
 use crate::lines::run_line;
 use array::moves::Way;
-use light::are_lanes;
+use laws::least;
+use slots::are_lanes;
 ghost use mathlib.Core.Path.{_≡_};
-ghost use Prim.Native.Nat.{ℕ, _+_, _*_, _≤_, min};
-ghost use lib.ListN.{length};
+ghost use Prim.Native.Nat.{ℕ, _+_, _*_, _≤_};
 ghost use Rattle.array.specs.Cells.{groups, cells};
-ghost use Rattle.light.specs.Lanes.{areLanes};
-ghost use Rattle.slots.specs.Lanes.{cellsBefore, cellsAfter, Long};
-ghost use Rattle.mesh.specs.Mesh.{strideOf, unitOf, goesUp, goesDown, ruleOf, RanLanes};
-ghost use Rattle.mesh.specs.Inside.{shareOf, Ruled, Roomy, Strided, lineStep, Cleared, RanGroup, RanPart, RanGroups};
+ghost use Rattle.slots.specs.Lanes.{FromTo, Long};
+ghost use Rattle.mesh.specs.Mesh.{strideOf, unitOf, goesUp, goesDown, ruleOf, RanAll};
+ghost use Rattle.mesh.specs.Inside.{shareOf, Ruled, Roomy, Strided, lineStep, RanGroup, RanPart};
 
 // A run one way, as far as it is made: whether a record heads for its aim mod N (low) or div N, whether it goes as late as it can, how many
 // moves the run has and how many of them are made.
@@ -24,12 +23,6 @@ pub struct Leg {
     pub late: bool,
     pub times: usize,
     pub made: usize,
-}
-
-fn least(a: usize, b: usize) -> usize
-    ensures { λ r. ⌜ r ≡ min a b ⌝ }
-{
-    if a <= b { a } else { b }
 }
 
 // From one cell of a line to the next.
@@ -124,7 +117,7 @@ fn run_group(
     requires { ⌜ Ruled t share × Strided t ⌝ }
     requires { ⌜ Roomy 16384 counts ⌝ }
     requires { ⌜ Long (groups (t .side)) words marks aims «spare_words» «spare_marks» «spare_aims» ⌝ }
-    ensures { λ _. ⌜ RanGroup t (cellsBefore words marks aims «spare_words» «spare_marks» «spare_aims») (cellsAfter words marks aims «spare_words» «spare_marks» «spare_aims») counts ⌝ }
+    ensures { λ _. ⌜ FromTo (RanGroup t counts) words marks aims «spare_words» «spare_marks» «spare_aims» ⌝ }
 {
     let n = words.len();
     let step = line_step(t);
@@ -165,7 +158,7 @@ fn run_part(
     requires { ⌜ base + groups (t .side) ≤ cells (t .side) ⌝ }
     requires { ⌜ ((g : ℕ) × (base ≡ g * groups (t .side))) ⌝ }
     requires { ⌜ Long (cells (t .side)) words marks aims «spare_words» «spare_marks» «spare_aims» ⌝ }
-    ensures { λ _. ⌜ RanPart t base (cellsBefore words marks aims «spare_words» «spare_marks» «spare_aims») (cellsAfter words marks aims «spare_words» «spare_marks» «spare_aims») counts ⌝ }
+    ensures { λ _. ⌜ FromTo (RanPart t base counts) words marks aims «spare_words» «spare_marks» «spare_aims» ⌝ }
 {
     let end = base + t.side * t.side;
     run_group(
@@ -181,44 +174,6 @@ fn run_part(
     );
 }
 
-// The same in every group.
-fn run_groups(
-    t: Rule,
-    share: usize,
-    counts: &mut [usize],
-    words: &mut [u32],
-    marks: &mut [u8],
-    aims: &mut [u16],
-    spare_words: &mut [u32],
-    spare_marks: &mut [u8],
-    spare_aims: &mut [u16],
-)
-    requires { ⌜ Ruled t share × Strided t ⌝ }
-    requires { ⌜ Cleared counts ⌝ }
-    requires { ⌜ Long (cells (t .side)) words marks aims «spare_words» «spare_marks» «spare_aims» ⌝ }
-    ensures { λ _. ⌜ RanGroups t (cellsBefore words marks aims «spare_words» «spare_marks» «spare_aims») (cellsAfter words marks aims «spare_words» «spare_marks» «spare_aims») counts ⌝ }
-{
-    let groups = t.side * t.side;
-    let mut base: usize = 0;
-    let mut g: usize = 0;
-    while g < groups {
-        run_part(
-            t,
-            share,
-            base,
-            counts,
-            words,
-            marks,
-            aims,
-            spare_words,
-            spare_marks,
-            spare_aims,
-        );
-        base += groups;
-        g += 1;
-    }
-}
-
 // A run of electronic moves of a board's six lanes, as far as it is made; how many records went that had 0 to 7 cells to go. Lanes that are not
 // a board's stay as they are.
 pub fn run_all(
@@ -230,7 +185,7 @@ pub fn run_all(
     spare_marks: &mut [u8],
     spare_aims: &mut [u16],
 ) -> [usize; 8]
-    ensures { λ r. ⌜ RanLanes (areLanes (leg .side) (length (now (words .entry))) (length (now (marks .entry))) (length (now (aims .entry))) (length (now («spare_words» .entry))) (length (now («spare_marks» .entry))) (length (now («spare_aims» .entry)))) (ruleOf leg) (cellsBefore words marks aims «spare_words» «spare_marks» «spare_aims») (cellsAfter words marks aims «spare_words» «spare_marks» «spare_aims») r ⌝ }
+    ensures { λ r. ⌜ RanAll leg words marks aims «spare_words» «spare_marks» «spare_aims» r ⌝ }
 {
     let mut counts = [0usize; 8];
     if !are_lanes(
@@ -245,16 +200,25 @@ pub fn run_all(
         return counts;
     }
     let t = rule_of(leg);
-    run_groups(
-        t,
-        share(t),
-        &mut counts[..],
-        words,
-        marks,
-        aims,
-        spare_words,
-        spare_marks,
-        spare_aims,
-    );
+    let share = share(t);
+    let groups = t.side * t.side;
+    let mut base: usize = 0;
+    let mut g: usize = 0;
+    while g < groups {
+        run_part(
+            t,
+            share,
+            base,
+            &mut counts[..],
+            words,
+            marks,
+            aims,
+            spare_words,
+            spare_marks,
+            spare_aims,
+        );
+        base += groups;
+        g += 1;
+    }
     counts
 }

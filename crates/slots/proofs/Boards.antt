@@ -5,12 +5,14 @@ use mathlib.Core.Bool.{true}
 use mathlib.Core.List.{List}
 use borrow.Author.Tests.{eq-eqb}
 use lib.ListN.{length}
+use Rattle.laws.proofs.Bools.{both-left, both-right}
 use Rattle.array.specs.Cells.{isSide, cells}
 use Rattle.light.specs.Lane.{isBoard}
-use Rattle.light.specs.Lanes.{areLanes}
+use Rattle.light.specs.Slots.{areSlots}
 use Rattle.light.proofs.Boards.{boards-known}
 use Rattle.light.proofs.Turning.{board-side, board-cells}
 use Rattle.slots.specs.Cells.{Sized}
+use Rattle.slots.specs.Lanes.{areLanes}
 
 -- what is known of lanes that are those of a board
 pub record Lanes (s : ℕ) (w m a w₂ m₂ a₂ : List ℕ) : Type 0 where
@@ -19,16 +21,19 @@ pub record Lanes (s : ℕ) (w m a w₂ m₂ a₂ : List ℕ) : Type 0 where
 
 pub lanes-known : (s : ℕ) (w m a w₂ m₂ a₂ : List ℕ) → areLanes s (length w) (length m) (length a) (length w₂) (length m₂) (length a₂) ≡ true → Lanes s w m a w₂ m₂ a₂
 lanes-known s w m a w₂ m₂ a₂ h =
-    let z = boards-known s (length w) (length m) (length a) (length w₂) (length m₂) (length a₂) h in
+    let fronts = areSlots s (length w) (length m) (length a) in
+    let spares = areSlots s (length w₂) (length m₂) (length a₂) in
+    let z = boards-known s (length w) (length m) (length a) (both-left fronts spares h) in
+    let z₂ = boards-known s (length w₂) (length m₂) (length a₂) (both-right fronts spares h) in
     record {
       side = board-side s (length w) (z .words);
       sized = record {
         words = board-cells s (length w) (z .words);
         marks = board-cells s (length m) (z .marks);
         aims = board-cells s (length a) (z .aims);
-        words2 = board-cells s (length w₂) (z .words2);
-        marks2 = board-cells s (length m₂) (z .marks2);
-        aims2 = board-cells s (length a₂) (z .aims2);
+        words2 = board-cells s (length w₂) (z₂ .words);
+        marks2 = board-cells s (length m₂) (z₂ .marks);
+        aims2 = board-cells s (length a₂) (z₂ .aims);
       };
     }
 

@@ -1,21 +1,31 @@
 -- Six lanes that a function is lent, in its contract by their names alone: the cells that they held, and the cells that they hold.
 use Prim.Native.Nat.{ℕ}
-use mathlib.Core.List.{List}
-use denote.Ref.{RefT, now}
-use Rattle.light.specs.Lanes.{Lent}
+use mathlib.Core.Bool.{Bool, _&&_}
+use lib.ListN.{length}
+use denote.Ref.{now}
+use Rattle.laws.specs.Lent.{Slice, Lent, old, new}
+use Rattle.light.specs.Slots.{areSlots}
 use Rattle.slots.specs.declared.Cell.{Cell}
 use Rattle.slots.specs.Cells.{cellAt, Sized}
 
--- a slice of numbers that is lent
-abbrev pub Slice : Type 0
-Slice = RefT (List ℕ)
+-- six lanes of these lengths are those of a board
+abbrev pub areLanes : ℕ → ℕ → ℕ → ℕ → ℕ → ℕ → ℕ → Bool
+areLanes s a b c d e f = areSlots s a b c && areSlots s d e f
+
+abbrev pub haveBoard : ℕ → Lent → Lent → Lent → Lent → Lent → Lent → Bool
+haveBoard s w m a w₂ m₂ a₂ =
+    areLanes s (length (old w)) (length (old m)) (length (old a)) (length (old w₂)) (length (old m₂)) (length (old a₂))
 
 -- what cell i held before, and what it holds
 abbrev pub cellsBefore : Lent → Lent → Lent → Lent → Lent → Lent → ℕ → Cell
-cellsBefore w m a w₂ m₂ a₂ = cellAt (now (w .entry)) (now (m .entry)) (now (a .entry)) (now (w₂ .entry)) (now (m₂ .entry)) (now (a₂ .entry))
+cellsBefore w m a w₂ m₂ a₂ = cellAt (old w) (old m) (old a) (old w₂) (old m₂) (old a₂)
 
 abbrev pub cellsAfter : Lent → Lent → Lent → Lent → Lent → Lent → ℕ → Cell
-cellsAfter w m a w₂ m₂ a₂ = cellAt (now (w .exit)) (now (m .exit)) (now (a .exit)) (now (w₂ .exit)) (now (m₂ .exit)) (now (a₂ .exit))
+cellsAfter w m a w₂ m₂ a₂ = cellAt (new w) (new m) (new a) (new w₂) (new m₂) (new a₂)
+
+-- what a promise about two tables says of lent lanes: the cells before, and the cells after
+abbrev pub FromTo : ((ℕ → Cell) → (ℕ → Cell) → Type 0) → Lent → Lent → Lent → Lent → Lent → Lent → Type 0
+FromTo P w m a w₂ m₂ a₂ = P (cellsBefore w m a w₂ m₂ a₂) (cellsAfter w m a w₂ m₂ a₂)
 
 -- six lanes of n cells
 abbrev pub Long : ℕ → Slice → Slice → Slice → Slice → Slice → Slice → Type 0

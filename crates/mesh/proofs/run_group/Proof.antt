@@ -31,7 +31,7 @@ mul-run-line c =
     let s = c .before .before .before .before .before .before .before .before .before .before .before in
     let l = c .before .before .loop in
     let k = known (s .pre .0 .0) in
-    let y = line-lies (s .args .t) (k .least) (s .pre .0 .1) (k .groups-few) (l .l) (c .if1 .taken) in
+    let y = line-lies (s .args .t) (k .least) (k .most) (s .pre .0 .0 .stride) (s .pre .0 .1) (k .groups-few) (l .l) (c .if1 .taken) in
     omega (arith, y .inside 0 (k .least), y .short, ap (λ (n : ℕ). l .l * n) (l .inv .1))
 
 run-line-requires : tie.Need-run-line-requires Inv-loop μ-loop
@@ -39,7 +39,7 @@ run-line-requires c κs =
     let s = c .before .before .before .before .before .before .before .before .before .before .before .before .before .before .before .before .before .before in
     let l = c .before .before .before .before .before .before .before .before .before .loop in
     let k = known (s .pre .0 .0) in
-    ((s .pre .0 .0, rw (l .inv .0, l .inv .1) (line-lies (s .args .t) (k .least) (s .pre .0 .1) (k .groups-few) (l .l) (c .before .before .before .before .before .before .before .if1 .taken))), (record { long = l .inv .3 .long; room = λ d h. omega (arith, s .pre .1 .0 .room d h, lined-few (k .most) (l .inv .3) d h) }, l .inv .2))
+    ((s .pre .0 .0, rw (l .inv .0, l .inv .1) (line-lies (s .args .t) (k .least) (k .most) (s .pre .0 .0 .stride) (s .pre .0 .1) (k .groups-few) (l .l) (c .before .before .before .before .before .before .before .if1 .taken))), (record { long = l .inv .3 .long; room = λ d h. omega (arith, s .pre .1 .0 .room d h, lined-few (k .most) (l .inv .3) d h) }, l .inv .2))
 
 add-l : tie.Need-add-l Inv-loop μ-loop
 add-l c = let s = c .before .before .before .before .before .before .before .before .before .before .before .before .before .before .before .before .before .before .before .before .before .before .before .before .before .before .before .before .before .before .before .before .before in omega (arith, c .before .before .before .before .before .before .before .before .before .before .before .before .before .before .before .before .before .before .before .before .before .before .if1 .taken, known (s .pre .0 .0) .most)

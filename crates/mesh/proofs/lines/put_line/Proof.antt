@@ -1,71 +1,106 @@
-use Prim.Native.Nat.{_-_}
-use mathlib.Core.Path.{refl}
+use Prim.Native.Nat.{ℕ, _-_, _*_, _/_, _<_}
+use mathlib.Core.Path.{_≡_, refl, sym, ap, _∙_}
+use mathlib.Core.Logic.{⊎-elim}
 use native.Mathlib.Omega.{arith}
-use Rattle.slots.specs.Cells.{Sized, cellAt}
+use Rattle.mesh.specs.Inside.{cellsOf}
 use Rattle.mesh.proofs.Ruling.{known}
-use Rattle.mesh.proofs.Laying.{Putting, putting-start, putting-step, putting-few, putting-end}
+use Rattle.mesh.proofs.Laying.{Settling, settling-start, settling-none, settling-some, settling-few, settling-end, cell-in, no-cells, went-one, lands-same}
 use Rattle.mesh.proofs.lines.put_line.Statement.{statement}
 use Rattle.mesh.proofs.lines.put_line.Tie as tie
+use Rattle.slots.proofs.empty.Reads as empty-reads
+use Rattle.slots.proofs.joined.Reads as joined-reads
 
 abbrev Inv-loop : tie.InvT-loop
-Inv-loop t share n start from counts₀ words₀ marks₀ aims₀ spare-words₀ spare-marks₀ spare-aims₀ held p₀ counts words marks aims spare-words spare-marks spare-aims p =
-    Sized n words marks aims spare-words spare-marks spare-aims
-    × Putting t start from p held (cellAt words₀ marks₀ aims₀ spare-words₀ spare-marks₀ spare-aims₀) (cellAt words marks aims spare-words spare-marks spare-aims) counts₀ counts
+Inv-loop t share counts₀ fronts spares line₀ n k₀ counts line k = (n ≡ 2 * t .side) × Settling t (cellsOf fronts spares) k counts₀ counts line
 
 abbrev μ-loop : tie.MeasureT-loop
-μ-loop t share n start from counts₀ words₀ marks₀ aims₀ spare-words₀ spare-marks₀ spare-aims₀ held p₀ counts words marks aims spare-words spare-marks spare-aims p =
-    t .side - p
+μ-loop t share counts₀ fronts spares line₀ n k₀ counts line k = n - k
+
+empty-requires : tie.Need-empty-requires Inv-loop μ-loop
+empty-requires c κs = tt
+
+mul-n : tie.Need-mul-n Inv-loop μ-loop
+mul-n c = omega (arith, known (c .before .before .before .pre .0) .most)
 
 loop-holds : tie.Need-loop-holds Inv-loop μ-loop
-loop-holds c = let s = c .before .before .before .before .before .before .before in (s .pre .1 .1, putting-start _ _ _ _ _ (omega (arith, s .pre .1 .0 .0)) (s .pre .1 .0 .1 .long))
+loop-holds c = (refl, settling-start _ _ (c .before .before .before .pre .1 .long) refl (no-cells 8 (c .before .empty .ensures)))
 
-mul-lifted : tie.Need-mul-lifted Inv-loop μ-loop
-mul-lifted c = let s = c .before .before .before .before .before .before .before .before .before .before in omega (arith, c .if1 .taken, known (s .pre .0 .0) .most)
+mul-t19 : tie.Need-mul-t19 Inv-loop μ-loop
+mul-t19 c = omega (arith, cell-in (c .loop-test .taken) (c .before .loop .inv .0) (known (c .before .before .before .before .before .pre .0) .most))
 
-array-copy-out-lifted : tie.Need-array-copy-out-lifted Inv-loop μ-loop
-array-copy-out-lifted c = let s = c .before .before .before .before .before .before .before .before .before .before in omega (arith, c .if1 .taken, known (s .pre .0 .0) .most)
+array-copy-out-t22 : tie.Need-array-copy-out-t22 Inv-loop μ-loop
+array-copy-out-t22 c = let s = c .before .before .before .before .before in omega (arith, cell-in (c .loop-test .taken) (c .before .loop .inv .0) (known (s .pre .0) .most))
 
-put-cell-requires : tie.Need-put-cell-requires Inv-loop μ-loop
-put-cell-requires c κs =
-    let s = c .before .before .before .before .before .before .before .before .before .before .before .before .before .before .before .before .before .before in
-    let l = c .before .before .before .before .before .before .before .before .before .before .loop in
-    (s .pre .0, ((c .before .before .before .before .before .before .before .before .if1 .taken, record { long = l .inv .1 .long; room = λ d h. omega (arith, s .pre .1 .0 .1 .room d h, putting-few _ (known (s .pre .0 .0) .most) (l .inv .1) d h) }), l .inv .0))
+mul-t23 : tie.Need-mul-t23 Inv-loop μ-loop
+mul-t23 c = omega (arith, cell-in (c .before .loop-test .taken) (c .before .before .loop .inv .0) (known (c .before .before .before .before .before .before .pre .0) .most))
 
-add-p : tie.Need-add-p Inv-loop μ-loop
-add-p c = let s = c .before .before .before .before .before .before .before .before .before .before .before .before .before .before .before .before .before .before .before .before .before .before .before .before .before .before .before .before .before .before .before .before .before in omega (arith, c .before .before .before .before .before .before .before .before .before .before .before .before .before .before .before .before .before .before .before .before .before .before .before .if1 .taken, known (s .pre .0 .0) .most)
+array-copy-out-t26 : tie.Need-array-copy-out-t26 Inv-loop μ-loop
+array-copy-out-t26 c = let s = c .before .before .before .before .before .before in omega (arith, cell-in (c .before .loop-test .taken) (c .before .before .loop .inv .0) (known (s .pre .0) .most))
+
+slot-requires : tie.Need-slot-requires Inv-loop μ-loop
+slot-requires c κs = tt
+
+digit-requires : tie.Need-digit-requires Inv-loop μ-loop
+digit-requires c κs = c .before .before .before .before .before .before .before .before .before .before .pre .0
+
+landing-requires : tie.Need-landing-requires Inv-loop μ-loop
+landing-requires c κs = let z = c .before .before .before .before .before .before .before .before .before .before .before .pre .0 in
+    let k = known z .most in
+    ((cell-in (c .before .before .before .before .before .before .loop-test .taken) (c .before .before .before .before .before .before .before .loop .inv .0) k .0, c .digit .ensures .1), (k, z .within))
+
+mul-counts : tie.Need-mul-counts Inv-loop μ-loop
+mul-counts c = omega (arith, c .landing .ensures .few)
+
+slice-read-counts : tie.Need-slice-read-counts Inv-loop μ-loop
+slice-read-counts c = omega (arith, c .before .landing .ensures .few, c .before .before .before .before .before .before .before .before .before .loop .inv .1 .long)
+
+add-counts : tie.Need-add-counts Inv-loop μ-loop
+add-counts c = let s = c .before .before .before .before .before .before .before .before .before .before .before .before .before .before in
+    let l = c .before .before .landing .ensures in
+    omega (arith, settling-few (known (s .pre .0) .most) (c .before .before .before .before .before .before .before .before .before .before .loop .inv .1) _ (l .few), s .pre .1 .room _ (l .few), went-one l)
+
+slice-write-counts : tie.Need-slice-write-counts Inv-loop μ-loop
+slice-write-counts c = omega (arith, c .before .before .landing .ensures .few, c .before .before .before .before .before .before .before .before .before .before .loop .inv .1 .long)
+
+mul-joined : tie.Need-mul-joined Inv-loop μ-loop
+mul-joined c = omega (arith, c .before .before .landing .ensures .on, known (c .before .before .before .before .before .before .before .before .before .before .before .before .before .before .pre .0) .most)
+
+array-copy-out-joined : tie.Need-array-copy-out-joined Inv-loop μ-loop
+array-copy-out-joined c = omega (arith, c .before .before .landing .ensures .on, known (c .before .before .before .before .before .before .before .before .before .before .before .before .before .before .pre .0) .most, c .before .before .before .before .before .before .before .before .before .before .loop .inv .1 .line-long)
+
+joined-requires : tie.Need-joined-requires Inv-loop μ-loop
+joined-requires c κs = tt
+
+mul-line : tie.Need-mul-line Inv-loop μ-loop
+mul-line c = omega (arith, c .before .before .before .before .landing .ensures .on, known (c .before .before .before .before .before .before .before .before .before .before .before .before .before .before .before .before .pre .0) .most)
+
+array-set-from-line : tie.Need-array-set-from-line Inv-loop μ-loop
+array-set-from-line c = omega (arith, c .before .before .before .before .landing .ensures .on, known (c .before .before .before .before .before .before .before .before .before .before .before .before .before .before .before .before .pre .0) .most, c .before .before .before .before .before .before .before .before .before .before .before .before .loop .inv .1 .line-long)
+
+add-k : tie.Need-add-k Inv-loop μ-loop
+add-k c = omega (arith, c .before .before .before .before .before .loop-test .taken, c .before .before .before .before .before .before .loop .inv .0, known (c .before .before .before .before .before .before .before .before .before .before .pre .0) .most)
 
 loop-less : tie.Need-loop-less Inv-loop μ-loop
-loop-less c = omega (arith, c .before .before .before .before .before .before .before .before .before .before .before .before .before .before .before .before .before .before .before .before .before .before .before .if1 .taken)
+loop-less c = omega (arith, c .before .before .before .before .before .loop-test .taken)
 
 loop-again : tie.Need-loop-again Inv-loop μ-loop
-loop-again c =
-    let l = c .before .before .before .before .before .before .before .before .before .before .before .before .before .before .before .before .before .before .before .before .before .before .before .before .before .loop in
-    let y = c .before .before .before .before .before .before .before .before .before .before .before .before .before .before .put-cell in
-    (omega (arith, l .inv .0, y .kept), putting-step _ (c .before .before .before .before .before .before .before .before .before .before .before .before .before .before .before .before .before .before .before .before .before .before .before .if1 .taken) refl refl (omega (arith, l .inv .1 .long, y .kept)) (l .inv .1) (y .ensures))
+loop-again c = let s = c .before .before .before .before .before .before .before .before .before .before in
+    let i = c .before .before .before .before .before .before .loop .inv in
+    let h = c .before .before .before .before .before .loop-test .taken in
+    let k = known (s .pre .0) .most in
+    let e = c .before .before .slot .ensures in (
+      i .0,
+      ⊎-elim
+          (λ w. rw (w .7, w .8) (settling-some (omega (arith, h, i .0)) e (i .1) (w .0 .taken) k (lands-same (w .1 .ensures .0) (w .2 .ensures)) refl (w .6 .ensures)))
+          (λ w. rw (w .1, w .2) (settling-none (omega (arith, h, i .0)) e (i .1) (w .0 .left)))
+          (c .if1 .came),
+    )
 
 same-length : tie.Need-same-length Inv-loop μ-loop
-same-length c = let s = c .before .before .before .before .before .before .before .before .before .before in omega (arith, c .before .before .loop .inv .1 .long, s .pre .1 .0 .1 .long)
-
-same-length-2 : tie.Need-same-length-2 Inv-loop μ-loop
-same-length-2 c = let s = c .before .before .before .before .before .before .before .before .before .before in omega (arith, c .before .before .loop .inv .0 .words, s .pre .1 .1 .words)
-
-same-length-3 : tie.Need-same-length-3 Inv-loop μ-loop
-same-length-3 c = let s = c .before .before .before .before .before .before .before .before .before .before in omega (arith, c .before .before .loop .inv .0 .marks, s .pre .1 .1 .marks)
-
-same-length-4 : tie.Need-same-length-4 Inv-loop μ-loop
-same-length-4 c = let s = c .before .before .before .before .before .before .before .before .before .before in omega (arith, c .before .before .loop .inv .0 .aims, s .pre .1 .1 .aims)
-
-same-length-5 : tie.Need-same-length-5 Inv-loop μ-loop
-same-length-5 c = let s = c .before .before .before .before .before .before .before .before .before .before in omega (arith, c .before .before .loop .inv .0 .words2, s .pre .1 .1 .words2)
-
-same-length-6 : tie.Need-same-length-6 Inv-loop μ-loop
-same-length-6 c = let s = c .before .before .before .before .before .before .before .before .before .before in omega (arith, c .before .before .loop .inv .0 .marks2, s .pre .1 .1 .marks2)
-
-same-length-7 : tie.Need-same-length-7 Inv-loop μ-loop
-same-length-7 c = let s = c .before .before .before .before .before .before .before .before .before .before in omega (arith, c .before .before .loop .inv .0 .aims2, s .pre .1 .1 .aims2)
+same-length c = c .before .loop .inv .1 .long ∙ sym (c .before .before .before .before .before .pre .1 .long)
 
 returns : tie.Need-returns Inv-loop μ-loop
-returns c = putting-end (omega (arith, c .if1 .left)) refl (c .before .before .loop .inv .1)
+returns c = settling-end (omega (arith, c .loop-test .left, c .before .loop .inv .0)) (c .before .loop .inv .1)
 
 pub put-line-spec : {M : Type 1} → statement M
 put-line-spec =
@@ -73,18 +108,27 @@ put-line-spec =
     (tie.spec
     Inv-loop
     μ-loop
+    empty-requires
+    mul-n
     loop-holds
-    mul-lifted
-    array-copy-out-lifted
-    put-cell-requires
-    add-p
+    mul-t19
+    array-copy-out-t22
+    mul-t23
+    array-copy-out-t26
+    slot-requires
+    digit-requires
+    landing-requires
+    mul-counts
+    slice-read-counts
+    add-counts
+    slice-write-counts
+    mul-joined
+    array-copy-out-joined
+    joined-requires
+    mul-line
+    array-set-from-line
+    add-k
     loop-less
     loop-again
     same-length
-    same-length-2
-    same-length-3
-    same-length-4
-    same-length-5
-    same-length-6
-    same-length-7
     returns)

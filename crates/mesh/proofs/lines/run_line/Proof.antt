@@ -1,59 +1,56 @@
-use Rattle.slots.specs.Cells.{cellAt}
-use Prim.Native.Nat.{ℕ, _+_, _*_}
-use lib.ListN.{getD}
-use Rattle.mesh.proofs.Parts.{kept-sized}
-use mathlib.Core.Path.{_∙_}
-use mathlib.Core.Path.{refl}
+use mathlib.Core.Path.{refl, sym, _∙_}
 use native.Mathlib.Omega.{arith}
-use Rattle.mesh.proofs.Laying.{ran-still, ran-moved}
+use borrow.Author.Tests.{not-true, not-false}
+use Rattle.mesh.proofs.Laying.{ran-moved, ran-still, still-told}
 use borrow.Author.Needs.{needs}
 use Rattle.mesh.proofs.lines.run_line.Statement.{statement}
 use Rattle.mesh.proofs.lines.run_line.Tie as tie
 
-first-goer-requires : tie.Need-first-goer-requires
-first-goer-requires c κs = search needs
+line-goes-requires : tie.Need-line-goes-requires
+line-goes-requires c κs = let s = c .before .before .before .before .before .before .before .before .before .before .before .pre in let z = s .1 .1 in (s .0, ((z .marks, z .aims), (z .marks2, z .aims2)))
 
-lift-requires : tie.Need-lift-requires
-lift-requires c κs = let s = c .before .before .before .before .before .before .before .before .before .before .before .before .before .before .before .before .before .before .before .before in (s .pre .0, (c .before .before .before .before .before .before .if1 .taken, s .pre .1 .1))
+take-slots-requires : tie.Need-take-slots-requires
+take-slots-requires c κs = let s = c .before .before .before .before .before .before .before .before .before .before .before .before .before .before .before .before .pre in let z = s .1 .1 in (s .0 .1, record { words = z .words; marks = z .marks; aims = z .aims })
+
+take-slots-requires-2 : tie.Need-take-slots-requires-2
+take-slots-requires-2 c κs = let s = c .before .before .before .before .before .before .before .before .before .before .before .before .before .before .before .before .before .before .before .before .pre in let z = s .1 .1 in (s .0 .1, record { words = z .words2; marks = z .marks2; aims = z .aims2 })
 
 put-line-requires : tie.Need-put-line-requires
-put-line-requires c κs =
-    let s = c .before .before .before .before .before .before .before .before .before .before .before .before .before .before .before .before .before .before .before .before .before .before .before .before .before .before .before .before .before .before .before .before .before .before .before .before .before .before .before .before in
-    let r = s .pre .1 .0 in
-    let y = c .before .before .before .before .before .before .before .before .before .before .before .before .before .before .before .before .before .before .before .lift in
-    (s .pre .0, ((c .before .before .before .before .before .before .before .before .before .before .before .before .before .before .before .before .before .before .before .before .before .before .before .before .before .before .if1 .taken, record { long = r .long; room = r .room }), kept-sized (s .pre .1 .1) (y .kept .1 .1 .1 .1 .1 .0) (y .kept .1 .1 .1 .1 .1 .1 .0) (y .kept .1 .1 .1 .1 .1 .1 .1 .0) (y .kept .1 .1 .1 .1 .1 .1 .1 .1 .0) (y .kept .1 .1 .1 .1 .1 .1 .1 .1 .1 .0) (y .kept .1 .1 .1 .1 .1 .1 .1 .1 .1 .1 .0)))
+put-line-requires c κs = let s = c .before .before .before .before .before .before .before .before .before .before .before .before .before .before .before .before .before .before .before .before .before .before .pre in (s .0 .0, record { long = s .1 .0 .long; room = s .1 .0 .room })
+
+lay-slots-requires : tie.Need-lay-slots-requires
+lay-slots-requires c κs = let s = c .before .before .before .before .before .before .before .before .before .before .before .before .before .before .before .before .before .before .before .before .before .before .before .before .before .before .before .before .pre in let z = s .1 .1 in (s .0 .1, record { words = z .words; marks = z .marks; aims = z .aims })
+
+lay-slots-requires-2 : tie.Need-lay-slots-requires-2
+lay-slots-requires-2 c κs = let s = c .before .before .before .before .before .before .before .before .before .before .before .before .before .before .before .before .before .before .before .before .before .before .before .before .before .before .before .before .before .before .before .before .before .before .before .before .before .before .pre in let z = s .1 .1 in (s .0 .1, record { words = z .words2; marks = z .marks2; aims = z .aims2 })
 
 same-length : tie.Need-same-length
-same-length c = c .before .before .before .before .before .before .before .before .before .before .before .before .before .before .put-line .kept .1 .1 .1 .1 .1 .1 .0
+same-length c = c .before .before .before .before .before .before .before .before .before .before .before .before .before .before .before .before .before .before .before .before .before .before .put-line .kept .1 .1 .1 .1 .0
 
 same-length-2 : tie.Need-same-length-2
-same-length-2 c = c .before .before .before .before .before .before .before .before .before .before .before .before .before .before .put-line .kept .1 .1 .1 .1 .1 .1 .1 .0 ∙ c .before .before .before .before .before .before .before .before .before .before .before .before .before .before .before .before .before .before .before .before .before .before .before .before .before .before .before .before .before .before .before .before .before .before .lift .kept .1 .1 .1 .1 .1 .0
+same-length-2 c = c .before .before .before .before .before .before .before .before .before .before .before .before .before .before .before .before .lay-slots .kept .1 .1 .1 .1 .1 .0
 
 same-length-3 : tie.Need-same-length-3
-same-length-3 c = c .before .before .before .before .before .before .before .before .before .before .before .before .before .before .put-line .kept .1 .1 .1 .1 .1 .1 .1 .1 .0 ∙ c .before .before .before .before .before .before .before .before .before .before .before .before .before .before .before .before .before .before .before .before .before .before .before .before .before .before .before .before .before .before .before .before .before .before .lift .kept .1 .1 .1 .1 .1 .1 .0
+same-length-3 c = c .before .before .before .before .before .before .before .before .before .before .before .before .before .before .before .before .lay-slots .kept .1 .1 .1 .1 .1 .1 .0
 
 same-length-4 : tie.Need-same-length-4
-same-length-4 c = c .before .before .before .before .before .before .before .before .before .before .before .before .before .before .put-line .kept .1 .1 .1 .1 .1 .1 .1 .1 .1 .0 ∙ c .before .before .before .before .before .before .before .before .before .before .before .before .before .before .before .before .before .before .before .before .before .before .before .before .before .before .before .before .before .before .before .before .before .before .lift .kept .1 .1 .1 .1 .1 .1 .1 .0
+same-length-4 c = c .before .before .before .before .before .before .before .before .before .before .before .before .before .before .before .before .lay-slots .kept .1 .1 .1 .1 .1 .1 .1 .0
 
 same-length-5 : tie.Need-same-length-5
-same-length-5 c = c .before .before .before .before .before .before .before .before .before .before .before .before .before .before .put-line .kept .1 .1 .1 .1 .1 .1 .1 .1 .1 .1 .0 ∙ c .before .before .before .before .before .before .before .before .before .before .before .before .before .before .before .before .before .before .before .before .before .before .before .before .before .before .before .before .before .before .before .before .before .before .lift .kept .1 .1 .1 .1 .1 .1 .1 .1 .0
+same-length-5 c = c .before .before .before .before .before .before .lay-slots2 .kept .1 .1 .1 .1 .1 .0
 
 same-length-6 : tie.Need-same-length-6
-same-length-6 c = c .before .before .before .before .before .before .before .before .before .before .before .before .before .before .put-line .kept .1 .1 .1 .1 .1 .1 .1 .1 .1 .1 .1 .0 ∙ c .before .before .before .before .before .before .before .before .before .before .before .before .before .before .before .before .before .before .before .before .before .before .before .before .before .before .before .before .before .before .before .before .before .before .lift .kept .1 .1 .1 .1 .1 .1 .1 .1 .1 .0
+same-length-6 c = c .before .before .before .before .before .before .lay-slots2 .kept .1 .1 .1 .1 .1 .1 .0
 
 same-length-7 : tie.Need-same-length-7
-same-length-7 c = c .before .before .before .before .before .before .before .before .before .before .before .before .before .before .put-line .kept .1 .1 .1 .1 .1 .1 .1 .1 .1 .1 .1 .1 .0 ∙ c .before .before .before .before .before .before .before .before .before .before .before .before .before .before .before .before .before .before .before .before .before .before .before .before .before .before .before .before .before .before .before .before .before .before .lift .kept .1 .1 .1 .1 .1 .1 .1 .1 .1 .1 .0
+same-length-7 c = c .before .before .before .before .before .before .lay-slots2 .kept .1 .1 .1 .1 .1 .1 .1 .0
 
 returns : tie.Need-returns
-returns c =
-    let s = c .before .before .before .before .before .before .before .before .before .before .before .before .before .before .before .before .before .before .before .before .before .before .before .before .before .before .before .before .before .before .before .before .before .before .before .before .before .before .before .before .before .before .before .before .before .before .before .before .before .before .before .before .before .before .before in
+returns c = let s = c .before .before .before .before .before .before .before .before .before .before .before .before .before .before .before .before .before .before .before .before .before .before .before .before .before .before .before .before .before .before .before .before .before .before .before .before .before .before .before .before .before .before .before .before .before in
     let a = s .args in
-    let f = c .before .before .before .before .before .before .before .before .before .before .before .before .before .before .before .before .before .before .before .before .before .before .before .before .before .before .before .before .before .before .before .before .before .before .before .before .before .before .before .before .before .before .before .first-goer in
-    let y = c .before .before .before .before .before .before .before .before .before .before .before .before .before .before .before .before .before .before .before .before .before .before .before .before .before .before .before .before .before .before .before .before .before .before .lift in
-    let l = y .last .1 .1 .1 .1 .1 in
-    let m = c .before .before .before .before .before .before .before .before .before .before .before .before .before .before .put-line .last .1 .1 .1 .1 .1 .1 .1 in
-    let T = (cellAt (a .words .now) (a .marks .now) (a .aims .now) (a .spare-words .now) (a .spare-marks .now) (a .spare-aims .now)) in
-    ran-moved (s .pre .0 .0) (a .start) T (f .result) (f .ensures .within) (λ p h. (f .ensures .front p h (getD (a .words .now) (a .start + p * a .t .stride) 0), f .ensures .spare p h (getD (a .spare-words .now) (a .start + p * a .t .stride) 0))) {C = (cellAt (l .0) (l .1 .0) (l .1 .1 .0) (l .1 .1 .1 .0) (l .1 .1 .1 .1 .0) (l .1 .1 .1 .1 .1 .0))} {C′ = (cellAt (m .0) (m .1 .0) (m .1 .1 .0) (m .1 .1 .1 .0) (m .1 .1 .1 .1 .0) (m .1 .1 .1 .1 .1 .0))} (y .result) (y .ensures) (c .before .before .before .before .before .before .before .before .before .before .before .before .before .before .put-line .ensures) refl refl
+    let still = still-told (a .t) (a .start) (a .words .now) (a .marks .now) (a .aims .now) (a .spare-words .now) (a .spare-marks .now) (a .spare-aims .now) in
+    ran-moved (c .before .before .before .before .before .before .before .before .before .before .before .before .before .before .before .before .before .before .before .before .before .before .before .before .before .before .before .before .take-slots .result) (c .before .before .before .before .before .before .before .before .before .before .before .before .before .before .before .before .before .before .before .before .before .before .before .before .take-slots2 .result) (s .pre .0 .1 .few) (sym still ∙ not-true _ (sym (c .before .before .before .before .before .before .before .before .before .before .before .before .before .before .before .before .before .before .before .before .before .before .before .before .before .before .before .before .before .before .before .before .before .line-goes .ensures) ∙ c .before .before .before .before .before .before .before .before .before .before .before .before .before .before .before .before .before .before .before .before .before .before .before .before .before .before .before .before .before .before .before .before .if1 .taken))
+    (c .before .before .before .before .before .before .before .before .before .before .before .before .before .before .before .before .before .before .before .before .before .before .before .before .before .before .before .before .take-slots .ensures) (c .before .before .before .before .before .before .before .before .before .before .before .before .before .before .before .before .before .before .before .before .before .before .before .before .take-slots2 .ensures) (c .before .before .before .before .before .before .before .before .before .before .before .before .before .before .before .before .before .before .before .before .before .before .put-line .ensures) (c .before .before .before .before .before .before .before .before .before .before .before .before .before .before .before .before .lay-slots .ensures) (c .before .before .before .before .before .before .lay-slots2 .ensures) refl refl
 
 same-length-8 : tie.Need-same-length-8
 same-length-8 c = search needs
@@ -68,19 +65,20 @@ same-length-11 : tie.Need-same-length-11
 same-length-11 c = search needs
 
 returns-2 : tie.Need-returns-2
-returns-2 c =
-    let s = c .before .before .before .before .before .before .before .before .before .before .before .before .before .before in
-    let a = s .args in
-    let f = c .before .before .first-goer in
-    ran-still (s .pre .0 .0) (a .start) (cellAt (a .words .now) (a .marks .now) (a .aims .now) (a .spare-words .now) (a .spare-marks .now) (a .spare-aims .now)) (f .result) (f .ensures .within) (λ p h. (f .ensures .front p h (getD (a .words .now) (a .start + p * a .t .stride) 0), f .ensures .spare p h (getD (a .spare-words .now) (a .start + p * a .t .stride) 0))) (omega (arith, c .if1 .left)) refl
+returns-2 c = let a = c .before .before .before .before .before .before .before .before .before .before .before .before .before .args in
+    let still = still-told (a .t) (a .start) (a .words .now) (a .marks .now) (a .aims .now) (a .spare-words .now) (a .spare-marks .now) (a .spare-aims .now) in
+    ran-still (sym still ∙ not-false _ (sym (c .before .line-goes .ensures) ∙ c .if1 .left)) refl
 
 pub run-line-spec : {M : Type 1} → statement M
 run-line-spec =
     tie.close
     (tie.spec
-    first-goer-requires
-    lift-requires
+    line-goes-requires
+    take-slots-requires
+    take-slots-requires-2
     put-line-requires
+    lay-slots-requires
+    lay-slots-requires-2
     same-length
     same-length-2
     same-length-3

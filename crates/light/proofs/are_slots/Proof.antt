@@ -1,0 +1,37 @@
+use mathlib.Core.Path.{sym, _∙_}
+use borrow.Author.Tests.{not-true, not-false}
+use borrow.Author.Needs.{needs}
+use Rattle.light.proofs.are_slots.Statement.{statement}
+use Rattle.light.proofs.are_slots.Tie as tie
+use Rattle.light.proofs.are_slots.Reads as reads
+use Rattle.light.proofs.are_slots.Lts as lts
+use Rattle.light.proofs.is_board.Reads as is-board-reads
+
+is-board-requires : tie.Need-is-board-requires
+is-board-requires c κs = search needs
+
+returns : tie.Need-returns
+returns c = rw (sym (c .before .is-board .ensures) ∙ not-true _ (c .if1 .taken))
+
+is-board-requires-2 : tie.Need-is-board-requires-2
+is-board-requires-2 c κs = search needs
+
+returns-2 : tie.Need-returns-2
+returns-2 c = rw (sym (c .before .before .before .is-board .ensures) ∙ not-false _ (c .before .before .if1 .left), sym (c .before .is-board2 .ensures) ∙ not-true _ (c .if2 .taken))
+
+is-board-requires-3 : tie.Need-is-board-requires-3
+is-board-requires-3 c κs = search needs
+
+returns-3 : tie.Need-returns-3
+returns-3 c = rw (sym (c .before .before .before .before .is-board .ensures) ∙ not-false _ (c .before .before .before .if1 .left), sym (c .before .before .is-board2 .ensures) ∙ not-false _ (c .before .if2 .left)) (c .is-board3 .ensures)
+
+pub are-slots-spec : {M : Type 1} → statement M
+are-slots-spec =
+    tie.close
+    (tie.spec
+    is-board-requires
+    returns
+    is-board-requires-2
+    returns-2
+    is-board-requires-3
+    returns-3)

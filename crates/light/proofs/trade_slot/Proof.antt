@@ -1,0 +1,57 @@
+use mathlib.Core.Path.{refl}
+use Rattle.light.proofs.Walking.{traded-none, traded-some}
+use borrow.Author.Needs.{needs}
+use Rattle.light.proofs.trade_slot.Statement.{statement}
+use Rattle.light.proofs.trade_slot.Tie as tie
+
+returns : tie.Need-returns
+returns c = traded-none (c .if1 .taken)
+
+slice-read-one : tie.Need-slice-read-one
+slice-read-one c = search needs
+
+one-requires : tie.Need-one-requires
+one-requires c κs = search needs
+
+slice-read-one-2 : tie.Need-slice-read-one-2
+slice-read-one-2 c = search needs
+
+one-requires-2 : tie.Need-one-requires-2
+one-requires-2 c κs = search needs
+
+add-moved : tie.Need-add-moved
+add-moved c = search needs
+
+exchange-requires : tie.Need-exchange-requires
+exchange-requires c κs = search needs
+
+same-length : tie.Need-same-length
+same-length c = search needs
+
+same-length-2 : tie.Need-same-length-2
+same-length-2 c = search needs
+
+same-length-3 : tie.Need-same-length-3
+same-length-3 c = search needs
+
+returns-2 : tie.Need-returns-2
+returns-2 c = let x = c .before .before .before .before .before .before .exchange .ensures in
+    let y = c .before .before .before .before .before .before .before .before .before .before .before .before .one .ensures in
+    let z = c .before .before .before .before .before .before .before .before .before .before .one2 .ensures in
+    traded-some (c .before .before .before .before .before .before .before .before .before .before .before .before .before .before .if1 .left) (y .0) (z .0) (y .1) (z .1) refl (x .0) (x .1 .0) (x .1 .1)
+
+pub trade-slot-spec : {M : Type 1} → statement M
+trade-slot-spec =
+    tie.close
+    (tie.spec
+    returns
+    slice-read-one
+    one-requires
+    slice-read-one-2
+    one-requires-2
+    add-moved
+    exchange-requires
+    same-length
+    same-length-2
+    same-length-3
+    returns-2)
