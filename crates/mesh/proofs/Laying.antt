@@ -24,7 +24,7 @@ use Rattle.slots.specs.Cells.{empty, joined, cellAt}
 use Rattle.mesh.specs.declared.lines.Rule.{Rule}
 use Rattle.mesh.specs.declared.lines.Arrival.{Arrival}
 use Rattle.mesh.specs.Lines.{headOf, endOf, reach, leaves, noneLeaves, isStill, landed, laid, ranLine, distanceOf, wentOf, wentFrom}
-use Rattle.mesh.specs.Inside.{goneOf, slotOf, slotIn, slotsAt, Taken, Laid, cellsOf, Lands, settled, Settled, RanLine}
+use Rattle.mesh.specs.Inside.{goneOf, slotOf, slotIn, slotsAt, Taken, Laid, cellsOf, Lands, Arrives, settled, Settled, RanLine}
 use Rattle.mesh.proofs.Walking.{leaves-gone}
 use Rattle.mesh.proofs.Ruling.{distance-few}
 use Rattle.mesh.proofs.Slots.{leaves-same}
@@ -39,7 +39,7 @@ one-less : (b : Bool) (c c' : Cell) → c ≡ c' → cond b c c' ≡ c'
 one-less true c c' e = e
 one-less false c c' e = refl
 
-pub none-went : (t : Rule) (d p : ℕ) (x : Rec) → x .mark ≡ 0 → wentOf t d p x ≡ 0
+none-went : (t : Rule) (d p : ℕ) (x : Rec) → x .mark ≡ 0 → wentOf t d p x ≡ 0
 unfolding wentOf leaves
 none-went t d p x e = rw e
 
@@ -82,15 +82,39 @@ lands {t} {p} {h} {on} {r} few within p< h< f g w a = record {
     turned : not (eqb (reach t h p (t .made)) p) ≡ ltb 0 on
     turned = leaves-gone t h p within ∙ ap (ltb 0) (sym (g ∙ ap (goneOf t) f))
 
-pub lands-same : {t : Rule} {p h h′ : ℕ} {r : Arrival} → h ≡ h′ → Lands t p h r → Lands t p h′ r
-lands-same {t} {p} {r = r} e z = subst (λ (h : ℕ). Lands t p h r) e z
-
-pub went-one : {t : Rule} {p h : ℕ} {r : Arrival} → Lands t p h r → r .went ≤ 1
-went-one {t} {p} {h} {r} z = rw (z .went) (go (eqb (r .at) p))
+-- of a slot with a record, and of one with none
+pub arrives-some : {t : Rule} {p h : ℕ} {x : Rec} {r : Arrival} → (x .mark ≡ 0 → ⊥) → h ≡ headOf t x → Lands t p h r → Arrives t p x r
+unfolding landed
+arrives-some {t} {p} {h} {x} {r} m e z =
+    let y : Lands t p (headOf t x) r = subst (λ (h : ℕ). Lands t p h r) e z in
+    record {
+      few = y .few;
+      on = y .on;
+      one = rw (y .went) (go (eqb (r .at) p));
+      lands = λ j c. ⊎-elim
+          (λ i. rw (eq-eqb j (r .at) i, eq-eqb (endOf t p x) j (sym (i ∙ y .at))))
+          (λ i. rw (ne-eqb j (r .at) i, ne-eqb (endOf t p x) j (λ n. i (sym (y .at ∙ n)))))
+          (same? j (r .at));
+      went = λ d. sym (went-lands t d p x m y);
+    }
   where
     go : (b : Bool) → cond b 0 1 ≤ 1
     go true = omega arith
     go false = omega arith
+
+pub arrives-none : {t : Rule} {p : ℕ} {x : Rec} → x .mark ≡ 0 → p < t .side → Arrives t p x (record { far = 0; at = p; went = 0 })
+unfolding landed
+arrives-none {t} {p} {x} m h = record {
+  few = omega arith;
+  on = h;
+  one = omega arith;
+  lands = λ j c. one-less (eqb j p) _ c (none-joins c x m) ∙ sym (one-less (eqb (endOf t p x) j) _ c (none-joins c x m));
+  went = λ d. nothing-went (eqb d 0) ∙ sym (none-went t d p x m);
+}
+  where
+    nothing-went : (b : Bool) → _≡_ {A = ℕ} (cond b 0 0) 0
+    nothing-went true = refl
+    nothing-went false = refl
 
 -- an empty line
 pub no-cells : (n : ℕ) {c : Cell} → c ≡ empty → (j : ℕ) → j < n → getD (replicate n c) j empty ≡ empty
@@ -110,47 +134,27 @@ unfolding settled
 settling-start t U {counts} e f g =
     record { within = omega arith; long = e; line-long = f; done = record { made = g; count = λ d h. sym (add-zero (getD counts d 0)) } }
 
-module _ {t : Rule} {U : ℕ → Cell} {k : ℕ} {counts counts′ : List ℕ} {line : List Cell} {x : Rec} (h : k < 2 * t .side) (e : x ≡ slotIn U k) (z : Settling t U k counts counts′ line) where
-  -- a slot with no record
-  pub settling-none : x .mark ≡ 0 → Settling t U (k + 1) counts counts′ line
-  unfolding settled landed
-  settling-none m =
-      let m′ : slotIn U k .mark ≡ 0 = ap (λ (y : Rec). y .mark) (sym e) ∙ m in
-      rw add-one (record {
-        within = omega arith;
-        long = z .long;
-        line-long = z .line-long;
-        done = record {
-          made = λ j u. z .done .made j u ∙ sym (one-less (eqb (endOf t (k / 2) (slotIn U k)) j) _ _ (none-joins _ (slotIn U k) m′));
-          count = λ d u. omega (arith, z .done .count d u, none-went t d (k / 2) (slotIn U k) m′);
-        };
-      })
+pub settling-step : {t : Rule} {U : ℕ → Cell} {k : ℕ} {counts counts′ : List ℕ} {line : List Cell} {x : Rec} {r : Arrival} {v : ℕ} {met : Cell} → k < 2 * t .side → t .side ≤ 8 → x ≡ slotIn U k
+    → Arrives t (k / 2) x r → v ≡ getD counts′ (r .far) 0 + r .went → met ≡ joined (getD line (r .at) empty) x → Settling t U k counts counts′ line
+    → Settling t U (k + 1) counts (set counts′ (r .far) v) (set line (r .at) met)
+unfolding settled
+settling-step {t} {U} {k} {counts} {counts′} {line} {x} {r} {v} {met} h few e y g o z = rw add-one (record {
+  within = omega arith;
+  long = length-set counts′ (r .far) v ∙ z .long;
+  line-long = length-set line (r .at) met ∙ z .line-long;
+  done = record {
+    made = λ j u. rw (← e) (getD-stored line (r .at) j met empty (omega (arith, z .line-long, y .on)) ∙ put j (same? j (r .at)) ∙ y .lands j (getD line j empty) ∙ ap (landed t j (k / 2) x) (z .done .made j u));
+    count = λ d u. rw (← e) (getD-stored counts′ (r .far) d v 0 (omega (arith, z .long, y .few)) ∙ add d (same? d (r .far)) ∙ ap₂ _+_ (z .done .count d u) (y .went d) ∙ omega arith);
+  };
+})
+  where
+    put : (j : ℕ) → (j ≡ r .at) ⊎ (j ≡ r .at → ⊥) → cond (eqb j (r .at)) met (getD line j empty) ≡ cond (eqb j (r .at)) (joined (getD line j empty) x) (getD line j empty)
+    put j (inl i) = rw (eq-eqb j (r .at) i) (o ∙ ap (λ (n : ℕ). joined (getD line n empty) x) (sym i))
+    put j (inr i) = rw (ne-eqb j (r .at) i)
 
-  -- and with one
-  pub settling-some : {l : Arrival} {v : ℕ} {met : Cell} → (x .mark ≡ 0 → ⊥) → t .side ≤ 8 → Lands t (k / 2) (headOf t x) l → v ≡ getD counts′ (l .far) 0 + l .went → met ≡ joined (getD line (l .at) empty) x
-      → Settling t U (k + 1) counts (set counts′ (l .far) v) (set line (l .at) met)
-  unfolding settled landed
-  settling-some {l} {v} {met} m few y g o = rw add-one (record {
-    within = omega arith;
-    long = length-set counts′ (l .far) v ∙ z .long;
-    line-long = length-set line (l .at) met ∙ z .line-long;
-    done = record {
-      made = λ j u. rw (← e) (getD-stored line (l .at) j met empty (omega (arith, z .line-long, y .on)) ∙ ⊎-elim
-          (λ i. rw (eq-eqb j (l .at) i, eq-eqb (endOf t (k / 2) x) j (sym (i ∙ y .at))) (o ∙ ap (λ (n : ℕ). joined (getD line n empty) x) (sym i) ∙ ap (λ (c : Cell). joined c x) (z .done .made j u)))
-          (λ i. rw (ne-eqb j (l .at) i, ne-eqb (endOf t (k / 2) x) j (λ n. i (sym (y .at ∙ n)))) (z .done .made j u))
-          (same? j (l .at)));
-      count = λ d u. rw (← e) (getD-stored counts′ (l .far) d v 0 (omega (arith, z .long, y .few)) ∙ counts-on d (z .done .count d u) (same? d (l .far)));
-    };
-  })
-    where
-      counts-on : (d : ℕ) → getD counts′ d 0 ≡ getD counts d 0 + sum k (λ i. wentOf t d (i / 2) (slotIn U i)) → (d ≡ l .far) ⊎ (d ≡ l .far → ⊥)
-          → cond (eqb d (l .far)) v (getD counts′ d 0) ≡ getD counts d 0 + (sum k (λ i. wentOf t d (i / 2) (slotIn U i)) + wentOf t d (k / 2) x)
-      counts-on d f (inl i) =
-          let w : wentOf t d (k / 2) x ≡ l .went = went-lands t d (k / 2) x m y ∙ rw (eq-eqb d (l .far) i) refl in
-          rw (eq-eqb d (l .far) i) (omega (arith, g, ap (λ (n : ℕ). getD counts′ n 0) i, f, w))
-      counts-on d f (inr i) =
-          let w : wentOf t d (k / 2) x ≡ 0 = went-lands t d (k / 2) x m y ∙ rw (ne-eqb d (l .far) i) refl in
-          rw (ne-eqb d (l .far) i) (omega (arith, f, w))
+    add : (d : ℕ) → (d ≡ r .far) ⊎ (d ≡ r .far → ⊥) → cond (eqb d (r .far)) v (getD counts′ d 0) ≡ getD counts′ d 0 + cond (eqb d (r .far)) (r .went) 0
+    add d (inl i) = rw (eq-eqb d (r .far) i) (omega (arith, g, ap (λ (n : ℕ). getD counts′ n 0) i))
+    add d (inr i) = rw (ne-eqb d (r .far) i) (sym (add-zero (getD counts′ d 0)))
 
 pub settling-few : {t : Rule} {U : ℕ → Cell} {k : ℕ} {counts counts′ : List ℕ} {line : List Cell} → t .side ≤ 8 → Settling t U k counts counts′ line → (d : ℕ) → d < 8
     → getD counts′ d 0 ≤ getD counts d 0 + 16

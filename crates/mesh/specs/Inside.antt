@@ -12,7 +12,7 @@ use Rattle.laws.specs.Sums.{sum}
 use Rattle.array.specs.Cells.{isSide, groups, cells}
 use Rattle.slots.specs.declared.Rec.{Rec}
 use Rattle.slots.specs.declared.Cell.{Cell}
-use Rattle.slots.specs.Cells.{nothing, empty, recordIn}
+use Rattle.slots.specs.Cells.{nothing, empty, joined, recordIn}
 use Rattle.mesh.specs.declared.lines.Rule.{Rule}
 use Rattle.mesh.specs.declared.lines.Arrival.{Arrival}
 use Rattle.mesh.specs.Lines.{reach, landed, ranLine, distanceOf, wentOf, wentFrom}
@@ -110,6 +110,14 @@ pub record Lands (t : Rule) (p h : ℕ) (r : Arrival) : Type 0 where
   pub at : r .at ≡ reach t h p (t .made)
   pub on : r .at < t .side
   pub went : r .went ≡ cond (eqb (r .at) p) 0 1
+
+-- where what slot x of cell p holds is put down, and what is counted
+pub record Arrives (t : Rule) (p : ℕ) (x : Rec) (r : Arrival) : Type 0 where
+  pub few : r .far < 8
+  pub on : r .at < t .side
+  pub one : r .went ≤ 1
+  pub lands : (j : ℕ) (c : Cell) → cond (eqb j (r .at)) (joined c x) c ≡ landed t j p x c
+  pub went : (d : ℕ) → cond (eqb d (r .far)) (r .went) 0 ≡ wentOf t d p x
 
 -- a line made its moves, and nothing else changed
 pub record RanLine (t : Rule) (start : ℕ) (counts : Lent) (T T′ : ℕ → Cell) : Type 0 where

@@ -17,7 +17,7 @@ ghost use lib.ListN.{length};
 ghost use Rattle.laws.specs.Lent.{old, new};
 ghost use Rattle.slots.specs.Lanes.{FromTo, Long};
 ghost use Rattle.mesh.specs.Lines.{digitOf, distanceOf, leaves, noneLeaves};
-ghost use Rattle.mesh.specs.Inside.{shareOf, goneOf, cellsOf, slotsAt, Ruled, Lies, Roomy, Lands, Settled, RanLine};
+ghost use Rattle.mesh.specs.Inside.{shareOf, goneOf, cellsOf, slotsAt, Ruled, Lies, Roomy, Lands, Arrives, Settled, RanLine};
 
 // What a line goes by: its length, the stride from one cell of it to the next, the weight of the digit of an aim that names a cell of it,
 // whether records go up the line and down it, whether they go as late as they can, how many moves the run has and how many are made.
@@ -99,6 +99,21 @@ fn landing(t: Rule, p: usize, h: usize) -> Arrival
     }
 }
 
+// The same of what slot x of cell p holds; where that is no record, it stays and nothing went.
+fn arriving(t: Rule, share: usize, p: usize, x: Rec) -> Arrival
+    requires { ⌜ Ruled t share × (p < t .side) ⌝ }
+    ensures { λ r. ⌜ Arrives t p x r ⌝ }
+{
+    if x.mark == 0 {
+        return Arrival {
+            far: 0,
+            at: p,
+            went: 0,
+        };
+    }
+    landing(t, p, digit(t, share, x.aim))
+}
+
 // Whether a record of this mark and aim leaves cell p.
 pub(crate) fn goes(t: Rule, share: usize, p: usize, mark: u8, aim: u16) -> bool
     requires { ⌜ Ruled t share ⌝ }
@@ -134,13 +149,11 @@ fn put_line(
             spare: spares[p],
         };
         let x = slot(k % 2 == 1, own);
-        if x.mark != 0 {
-            let l = landing(t, p, digit(t, share, x.aim));
-            let far = l.far;
-            let at = l.at;
-            counts[far] += l.went;
-            line[at] = joined(line[at], x);
-        }
+        let arrival = arriving(t, share, p, x);
+        let far = arrival.far;
+        let at = arrival.at;
+        counts[far] += arrival.went;
+        line[at] = joined(line[at], x);
         k += 1;
     }
     line

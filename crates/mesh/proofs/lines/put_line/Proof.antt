@@ -1,10 +1,9 @@
-use Prim.Native.Nat.{ℕ, _-_, _*_, _/_, _<_}
-use mathlib.Core.Path.{_≡_, refl, sym, ap, _∙_}
-use mathlib.Core.Logic.{⊎-elim}
+use Prim.Native.Nat.{_-_, _*_}
+use mathlib.Core.Path.{_≡_, refl, sym, _∙_}
 use native.Mathlib.Omega.{arith}
 use Rattle.mesh.specs.Inside.{cellsOf}
 use Rattle.mesh.proofs.Ruling.{known}
-use Rattle.mesh.proofs.Laying.{Settling, settling-start, settling-none, settling-some, settling-few, settling-end, cell-in, no-cells, went-one, lands-same}
+use Rattle.mesh.proofs.Laying.{Settling, settling-start, settling-step, settling-few, settling-end, cell-in, no-cells}
 use Rattle.mesh.proofs.lines.put_line.Statement.{statement}
 use Rattle.mesh.proofs.lines.put_line.Tie as tie
 use Rattle.slots.proofs.empty.Reads as empty-reads
@@ -40,61 +39,47 @@ array-copy-out-t26 c = let s = c .before .before .before .before .before .before
 slot-requires : tie.Need-slot-requires Inv-loop μ-loop
 slot-requires c κs = tt
 
-digit-requires : tie.Need-digit-requires Inv-loop μ-loop
-digit-requires c κs = c .before .before .before .before .before .before .before .before .before .before .pre .0
-
-landing-requires : tie.Need-landing-requires Inv-loop μ-loop
-landing-requires c κs = let z = c .before .before .before .before .before .before .before .before .before .before .before .pre .0 in
-    let k = known z .most in
-    ((cell-in (c .before .before .before .before .before .before .loop-test .taken) (c .before .before .before .before .before .before .before .loop .inv .0) k .0, c .digit .ensures .1), (k, z .within))
+arriving-requires : tie.Need-arriving-requires Inv-loop μ-loop
+arriving-requires c κs = let z = c .before .before .before .before .before .before .before .before .pre .0 in (z, cell-in (c .before .before .before .loop-test .taken) (c .before .before .before .before .loop .inv .0) (known z .most) .0)
 
 mul-counts : tie.Need-mul-counts Inv-loop μ-loop
-mul-counts c = omega (arith, c .landing .ensures .few)
+mul-counts c = omega (arith, c .arriving .ensures .few)
 
 slice-read-counts : tie.Need-slice-read-counts Inv-loop μ-loop
-slice-read-counts c = omega (arith, c .before .landing .ensures .few, c .before .before .before .before .before .before .before .before .before .loop .inv .1 .long)
+slice-read-counts c = omega (arith, c .before .arriving .ensures .few, c .before .before .before .before .before .before .loop .inv .1 .long)
 
 add-counts : tie.Need-add-counts Inv-loop μ-loop
-add-counts c = let s = c .before .before .before .before .before .before .before .before .before .before .before .before .before .before in
-    let l = c .before .before .landing .ensures in
-    omega (arith, settling-few (known (s .pre .0) .most) (c .before .before .before .before .before .before .before .before .before .before .loop .inv .1) _ (l .few), s .pre .1 .room _ (l .few), went-one l)
+add-counts c = let s = c .before .before .before .before .before .before .before .before .before .before .before in
+    let l = c .before .before .arriving .ensures in
+    omega (arith, settling-few (known (s .pre .0) .most) (c .before .before .before .before .before .before .before .loop .inv .1) _ (l .few), s .pre .1 .room _ (l .few), l .one)
 
 slice-write-counts : tie.Need-slice-write-counts Inv-loop μ-loop
-slice-write-counts c = omega (arith, c .before .before .landing .ensures .few, c .before .before .before .before .before .before .before .before .before .before .loop .inv .1 .long)
+slice-write-counts c = omega (arith, c .before .before .arriving .ensures .few, c .before .before .before .before .before .before .before .loop .inv .1 .long)
 
 mul-joined : tie.Need-mul-joined Inv-loop μ-loop
-mul-joined c = omega (arith, c .before .before .landing .ensures .on, known (c .before .before .before .before .before .before .before .before .before .before .before .before .before .before .pre .0) .most)
+mul-joined c = omega (arith, c .before .before .arriving .ensures .on, known (c .before .before .before .before .before .before .before .before .before .before .before .pre .0) .most)
 
 array-copy-out-joined : tie.Need-array-copy-out-joined Inv-loop μ-loop
-array-copy-out-joined c = omega (arith, c .before .before .landing .ensures .on, known (c .before .before .before .before .before .before .before .before .before .before .before .before .before .before .pre .0) .most, c .before .before .before .before .before .before .before .before .before .before .loop .inv .1 .line-long)
+array-copy-out-joined c = omega (arith, c .before .before .arriving .ensures .on, known (c .before .before .before .before .before .before .before .before .before .before .before .pre .0) .most, c .before .before .before .before .before .before .before .loop .inv .1 .line-long)
 
 joined-requires : tie.Need-joined-requires Inv-loop μ-loop
 joined-requires c κs = tt
 
 mul-line : tie.Need-mul-line Inv-loop μ-loop
-mul-line c = omega (arith, c .before .before .before .before .landing .ensures .on, known (c .before .before .before .before .before .before .before .before .before .before .before .before .before .before .before .before .pre .0) .most)
+mul-line c = omega (arith, c .before .before .before .before .arriving .ensures .on, known (c .before .before .before .before .before .before .before .before .before .before .before .before .before .pre .0) .most)
 
 array-set-from-line : tie.Need-array-set-from-line Inv-loop μ-loop
-array-set-from-line c = omega (arith, c .before .before .before .before .landing .ensures .on, known (c .before .before .before .before .before .before .before .before .before .before .before .before .before .before .before .before .pre .0) .most, c .before .before .before .before .before .before .before .before .before .before .before .before .loop .inv .1 .line-long)
+array-set-from-line c = omega (arith, c .before .before .before .before .arriving .ensures .on, known (c .before .before .before .before .before .before .before .before .before .before .before .before .before .pre .0) .most, c .before .before .before .before .before .before .before .before .before .loop .inv .1 .line-long)
 
 add-k : tie.Need-add-k Inv-loop μ-loop
-add-k c = omega (arith, c .before .before .before .before .before .loop-test .taken, c .before .before .before .before .before .before .loop .inv .0, known (c .before .before .before .before .before .before .before .before .before .before .pre .0) .most)
+add-k c = omega (arith, c .before .before .before .before .before .before .before .before .loop-test .taken, c .before .before .before .before .before .before .before .before .before .loop .inv .0, known (c .before .before .before .before .before .before .before .before .before .before .before .before .before .pre .0) .most)
 
 loop-less : tie.Need-loop-less Inv-loop μ-loop
-loop-less c = omega (arith, c .before .before .before .before .before .loop-test .taken)
+loop-less c = omega (arith, c .before .before .before .before .before .before .before .before .loop-test .taken)
 
 loop-again : tie.Need-loop-again Inv-loop μ-loop
-loop-again c = let s = c .before .before .before .before .before .before .before .before .before .before in
-    let i = c .before .before .before .before .before .before .loop .inv in
-    let h = c .before .before .before .before .before .loop-test .taken in
-    let k = known (s .pre .0) .most in
-    let e = c .before .before .slot .ensures in (
-      i .0,
-      ⊎-elim
-          (λ w. rw (w .7, w .8) (settling-some (omega (arith, h, i .0)) e (i .1) (w .0 .taken) k (lands-same (w .1 .ensures .0) (w .2 .ensures)) refl (w .6 .ensures)))
-          (λ w. rw (w .1, w .2) (settling-none (omega (arith, h, i .0)) e (i .1) (w .0 .left)))
-          (c .if1 .came),
-    )
+loop-again c = let i = c .before .before .before .before .before .before .before .before .before .loop .inv in
+    (i .0, settling-step (omega (arith, c .before .before .before .before .before .before .before .before .loop-test .taken, i .0)) (known (c .before .before .before .before .before .before .before .before .before .before .before .before .before .pre .0) .most) (c .before .before .before .before .before .slot .ensures) (c .before .before .before .before .arriving .ensures) refl (c .joined .ensures) (i .1))
 
 same-length : tie.Need-same-length Inv-loop μ-loop
 same-length c = c .before .loop .inv .1 .long ∙ sym (c .before .before .before .before .before .pre .1 .long)
@@ -116,8 +101,7 @@ put-line-spec =
     mul-t23
     array-copy-out-t26
     slot-requires
-    digit-requires
-    landing-requires
+    arriving-requires
     mul-counts
     slice-read-counts
     add-counts
