@@ -2,21 +2,22 @@
 use Prim.Native.Nat.{ℕ, zero, suc, _≤_, _<_}
 use mathlib.Core.Path.{_≡_, refl, sym, ap, _∙_}
 use mathlib.Core.Logic.{_⊎_, inl, inr, ⊎-elim}
-use mathlib.Core.Bool.{Bool, true, false, cond, not}
+use mathlib.Core.Bool.{Bool, true, false, cond}
 use native.Mathlib.Omega.{arith}
-use borrow.Author.Tests.{eqb-true, eqb-false, eq-eqb, ne-eqb, not-true, not-false}
+use borrow.Author.Tests.{eqb-true, eqb-false, eq-eqb, not-false}
 use lib.Dec.{eqb}
-use Rattle.laws.proofs.Deciding.{apart, same?}
-use Rattle.array.specs.Cells.{cells}
+use Rattle.laws.proofs.Bools.{both-left, both-right}
+use Rattle.laws.proofs.Deciding.{apart}
 use Rattle.slots.specs.declared.Rec.{Rec}
 use Rattle.slots.specs.declared.Cell.{Cell}
-use Rattle.slots.specs.Cells.{nothing, joined, only}
+use Rattle.slots.specs.Cells.{nothing, joined}
 use Rattle.mesh.specs.declared.Leg.{Leg}
-use Rattle.mesh.specs.Lines.{endOf, leaves, goersOf, stayersOf, landed, laid}
+use Rattle.mesh.specs.Lines.{endOf, leaves, noneLeaves, isStill, landed, laid}
+use Rattle.mesh.proofs.Laying.{stays-all}
 use Rattle.mesh.specs.Mesh.{ruleOf, ranOn}
 use Rattle.course.specs.Showing.{contentOf}
-use Rattle.course.proofs.Holds.{Holds, hold0, same-holds, holds-one, never, passes, join-none, joins, joins-both}
-use Rattle.course.proofs.Lines.{spot, onLine, spot<, own-spot, spot-line, line-line, line<, end<}
+use Rattle.course.proofs.Holds.{Holds, hold0, hold1, hold2, only, same-holds, holds-one, passes, join-none, joins, joins-both}
+use Rattle.course.proofs.Lines.{spot, onLine, spot<, own-spot, spot-line, line-line, end<}
 
 -- records of rising aims
 pub record Rising (b : ℕ) (R : ℕ → Rec) : Type 0 where
@@ -57,10 +58,10 @@ module _ {R : ℕ → Rec} {b : ℕ} (z : Rising b R) (pos : ℕ → ℕ) (f : F
   pub content-holds : (j : ℕ) → Holds R (At b pos j) (contentOf b R pos j)
   content-holds j = content-some b (omega arith) j
 
--- a record leaves just where its way ends elsewhere
-leaving : (l : Leg) (p : ℕ) (x : Rec) → x .mark ≡ 1 → leaves (ruleOf l) p x ≡ not (eqb (endOf (ruleOf l) p x) p)
+-- a record that does not leave ends where it is
+staying : (l : Leg) (p : ℕ) (x : Rec) → x .mark ≡ 1 → leaves (ruleOf l) p x ≡ false → endOf (ruleOf l) p x ≡ p
 unfolding leaves
-leaving l p x e = rw e
+staying l p x e f = eqb-true (endOf (ruleOf l) p x) p (not-false _ (rw e at f))
 
 -- what is put down of a cell is what of it ends here
 both-landed : (l : Leg) (p q : ℕ) (x c : Cell)
@@ -97,9 +98,9 @@ module _ {l : Leg} {b : ℕ} {R : ℕ → Rec} {pos post : ℕ → ℕ} (m : Run
   abbrev From : ℕ → ℕ → Type 0
   From q k = At b pos (onLine l i q) k
 
-  -- it is here in the end, and was here before or in one of the first q cells
+  -- it is here in the end, and was in one of the first q cells
   abbrev Here : ℕ → ℕ → Type 0
-  Here q k = At b post i k × ((spot l (pos k) ≡ p) ⊎ (spot l (pos k) < q))
+  Here q k = At b post i k × (spot l (pos k) < q)
 
   p< : p < l .side
   p< = spot< l (m .some) i
@@ -130,85 +131,68 @@ module _ {l : Leg} {b : ℕ} {R : ℕ → Rec} {pos post : ℕ → ℕ} (m : Run
         ∙ ap (λ (j : ℕ). onLine l j (spot l (pos k))) (sym (m .next k (a .0)) ∙ a .1),
   )
 
-  leaving-true : (q k : ℕ) → k < b → (end q k ≡ q → ⊥) → leaves (ruleOf l) q (R k) ≡ true
-  leaving-true q k h d = leaving l q (R k) (m .rising .marked k h) ∙ ap not (ne-eqb (end q k) q d)
-
-  leaving-false : (q k : ℕ) → k < b → end q k ≡ q → leaves (ruleOf l) q (R k) ≡ false
-  leaving-false q k h e = leaving l q (R k) (m .rising .marked k h) ∙ ap not (eq-eqb (end q k) q e)
-
-  stayed : (k : ℕ) → From p k → leaves (ruleOf l) p (R k) ≡ false → end p k ≡ p
-  stayed k f e = eqb-true (end p k) p (not-false (eqb (end p k) p) (sym (leaving l p (R k) (m .rising .marked k (f .0))) ∙ e))
-
-  -- what leaves cell q of the line and ends here
+  -- what comes from cell q of the line and ends here
   abbrev Comes : ℕ → ℕ → Type 0
-  Comes q k = (From q k × (leaves (ruleOf l) q (R k) ≡ true)) × (eqb (end q k) p ≡ true)
+  Comes q k = From q k × (eqb (end q k) p ≡ true)
 
   ended : (q k : ℕ) → Comes q k → end q k ≡ p
   ended q k c = eqb-true (end q k) p (c .1)
 
-  clash : (q k : ℕ) → q < l .side → Here q k → Comes q k → ⊥
-  clash q k h o c =
-      let e = was q k h (c .0 .0) in
-      ⊎-elim
-      (λ d. never (c .0 .1) (leaving-false q k (c .0 .0 .0) (ended q k c ∙ sym d ∙ e)))
-      (λ d. omega (arith, e))
-      (o .1)
-
   next-here : (q k : ℕ) → q < l .side → Here (suc q) k → Here q k ⊎ Comes q k
   next-here q k h o =
       ⊎-elim
-      (λ e. inl (o .0, inl e))
-      (λ d.
-      ⊎-elim
-      (λ u. inl (o .0, inr u))
-      (λ u. go (omega arith))
-      (apart (spot l (pos k)) q))
-      (o .1)
-    where
-      go : spot l (pos k) ≡ q → Here q k ⊎ Comes q k
-      go e =
-          ⊎-elim
-          (λ f. inl (o .0, inl (e ∙ f)))
-          (λ f.
-          let g : end q k ≡ p = rw e at (ends k (o .0)) in
-          inr (((rw e at (came k (o .0))), leaving-true q k (o .0 .0) (λ d. f (sym d ∙ g))), eq-eqb (end q k) p g))
-          (same? q p)
+      (λ u. inl (o .0, u))
+      (λ u.
+      let e : spot l (pos k) ≡ q = omega arith in
+      inr ((rw e at (came k (o .0))), eq-eqb (end q k) p (rw e at (ends k (o .0)))))
+      (apart (spot l (pos k)) q)
 
   -- never three on the way, for there are never three at the end
   laid-holds : (q : ℕ) → q ≤ l .side → Holds R (Here q) (laid (ruleOf l) (λ q. contentOf b R pos (onLine l i q)) (spot l i) q)
-  unfolding laid goersOf stayersOf
-  laid-holds zero h =
-      same-holds
-      (λ k o. (comes p k p< (o .0) (stayed k (o .0) (not-true (leaves (ruleOf l) p (R k)) (o .1))), inl (was p k p< (o .0))))
-      (λ k o.
-      let e : spot l (pos k) ≡ p = ⊎-elim (λ d. d) (λ d. absurd (omega arith)) (o .1) in
-      ((rw e at (came k (o .0))), ap not (leaving-false p k (o .0 .0) (rw e at (ends k (o .0))))))
-      (passes (λ x. not (leaves (ruleOf l) p x)) (content-holds (m .rising) pos (m .before) (onLine l i p)))
+  unfolding laid
+  laid-holds zero h = hold0 refl (λ k o. omega arith)
   laid-holds (suc q) h =
-      rw (both-landed l p q (goersOf (ruleOf l) q (line q)) (laid (ruleOf l) line p q))
+      rw (both-landed l p q (line q) (laid (ruleOf l) line p q))
       (same-holds
-      (λ k. ⊎-elim (λ o. (o .0, ⊎-elim (λ e. inl e) (λ d. inr (omega arith)) (o .1))) (λ c. (comes q k h (c .0 .0) (ended q k c), inr (omega (arith, was q k h (c .0 .0))))))
+      (λ k. ⊎-elim (λ o. (o .0, omega arith)) (λ c. (comes q k h (c .0) (ended q k c), omega (arith, was q k h (c .0)))))
       (λ k. next-here q k h)
       (joins-both R b (m .rising .marked) (m .rising .rising) (At b post i) (λ k a. a .0) (few {pos = post} (m .after) i)
-      (λ k. clash q k h) (λ k o. o .0) (λ k c. comes q k h (c .0 .0) (ended q k c))
+      (λ k o c. omega (arith, o .1, was q k h (c .0))) (λ k o. o .0) (λ k c. comes q k h (c .0) (ended q k c))
       (laid-holds q (omega arith))
-      (passes (λ x. eqb (endOf (ruleOf l) q x) p) (passes (leaves (ruleOf l) q) (content-holds (m .rising) pos (m .before) (onLine l i q))))))
+      (passes (λ x. eqb (endOf (ruleOf l) q x) p) (content-holds (m .rising) pos (m .before) (onLine l i q)))))
+
+  -- a record of a still line stays where it is
+  stays : isStill (ruleOf l) line ≡ true → (q k : ℕ) → q < l .side → From q k → end q k ≡ q
+  stays still q k h f = staying l q (R k) (m .rising .marked k (f .0)) (held-stays (content-holds (m .rising) pos (m .before) (onLine l i q)) k f)
+    where
+      fronts : leaves (ruleOf l) q (line q .front) ≡ false
+      fronts = stays-all (ruleOf l) (λ q. line q .front) (l .side) (both-left _ (noneLeaves (ruleOf l) (λ q. line q .spare) (l .side)) still) q h
+
+      spares : leaves (ruleOf l) q (line q .spare) ≡ false
+      spares = stays-all (ruleOf l) (λ q. line q .spare) (l .side) (both-right (noneLeaves (ruleOf l) (λ q. line q .front) (l .side)) _ still) q h
+
+      held-stays : Holds R (From q) (line q) → (k : ℕ) → From q k → leaves (ruleOf l) q (R k) ≡ false
+      held-stays (hold0 e n) k f = absurd (n k f)
+      held-stays (hold1 a e x n) k f = rw (n k f) (ap (λ (c : Cell). leaves (ruleOf l) q (c .front)) (sym e) ∙ fronts)
+      held-stays (hold2 a c e u x y n) k f =
+          ⊎-elim
+          (λ d. rw d (ap (λ (c : Cell). leaves (ruleOf l) q (c .front)) (sym e) ∙ fronts))
+          (λ d. rw d (ap (λ (c : Cell). leaves (ruleOf l) q (c .spare)) (sym e) ∙ spares))
+          (n k f)
+
+  still-here : isStill (ruleOf l) line ≡ true → Holds R (At b post i) (line p)
+  still-here still =
+      same-holds
+      (λ k f. comes p k p< f (stays still p k p< f))
+      (λ k a.
+      let e : spot l (pos k) ≡ p = sym (stays still (spot l (pos k)) k (spot< l (m .some) (pos k)) (came k a)) ∙ ends k a in
+      rw e at (came k a))
+      (content-holds (m .rising) pos (m .before) (onLine l i p))
 
   pub ran-content : ranOn (ruleOf l) (contentOf b R pos) i ≡ contentOf b R post i
   unfolding ranOn
-  ran-content =
-      holds-one
-      (same-holds (λ k o. o .0) (λ k a. (a, inr (spot< l (m .some) (pos k)))) (laid-holds (l .side) (omega arith)))
-      (content-holds (m .rising) post (m .after) i)
-
--- a run looks at the cells of the board alone
-laid-same : (l : Leg) (U W : ℕ → Cell) → ((q : ℕ) → q < l .side → U q ≡ W q) → (p q : ℕ) → p < l .side → q ≤ l .side → laid (ruleOf l) U p q ≡ laid (ruleOf l) W p q
-unfolding laid
-laid-same l U W e p zero h u = ap (stayersOf (ruleOf l) p) (e p h)
-laid-same l U W e p (suc q) h u = rw (e q u, laid-same l U W e p q h (omega arith))
-
-pub ran-same : (l : Leg) → 0 < l .side → {T U : ℕ → Cell} → ((j : ℕ) → j < cells (l .side) → T j ≡ U j)
-    → (i : ℕ) → i < cells (l .side) → ranOn (ruleOf l) T i ≡ ranOn (ruleOf l) U i
-unfolding ranOn
-ran-same l some {T} {U} e i h =
-    laid-same l (λ q. T (onLine l i q)) (λ q. U (onLine l i q)) (λ q u. e (onLine l i q) (line< l some i q h u)) (spot l i) (l .side) (spot< l some i) (omega arith)
+  ran-content = holds-one (go (isStill (ruleOf l) line) refl) (content-holds (m .rising) post (m .after) i)
+    where
+      go : (a : Bool) → isStill (ruleOf l) line ≡ a → Holds R (At b post i) (cond a (line p) (laid (ruleOf l) line p (l .side)))
+      go true e = still-here e
+      go false e = same-holds (λ k o. o .0) (λ k a. (a, spot< l (m .some) (pos k))) (laid-holds (l .side) (omega arith))

@@ -32,7 +32,8 @@ use Rattle.mesh.specs.Lines.{headOf, goesAt}
 use Rattle.mesh.specs.Mesh.{ruleOf}
 use Rattle.mover.specs.Runs.{lowAfter, legOf, swapped, ranBy, goneBy, madeOf, after, movedLog}
 use Rattle.course.specs.Showing.{contentOf, changed, Shows}
-use Rattle.course.proofs.Content.{Rising, Fits, Runs, ran-content, ran-same}
+use Rattle.mesh.proofs.Legs.{ran-same}
+use Rattle.course.proofs.Content.{Rising, Fits, Runs, ran-content}
 use Rattle.course.proofs.Counting.{swap-count, run-count}
 use Rattle.course.proofs.Lines.{spot, atCell}
 use Rattle.course.proofs.Bridge.{headed, waitFor, walked}
@@ -107,7 +108,7 @@ module _ {trip : Trip} {s b swaps times m : ℕ} {R : ℕ → Rec} {pos : ℕ �
   run-shows : (x : Move) → Part trip s x swaps times m b R pos → Shows s b R (pos m) (ranBy trip s swaps x times m T)
   run-shows Swap c = swaps-show c m (omega arith)
   run-shows (Electronic w) c = record {
-    cells = λ j u. ran-same leg some {U = contentOf b R (pos 0)} (o .cells) j u ∙ ran-content runs j;
+    cells = λ j u. ran-same leg some _ (contentOf b R (pos 0)) (o .cells) j u ∙ ran-content runs j;
   }
     where
       leg : Leg

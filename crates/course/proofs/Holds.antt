@@ -5,10 +5,11 @@ use mathlib.Core.Logic.{_⊎_, inl, inr, ⊎-elim}
 use mathlib.Core.Bool.{Bool, true, false}
 use native.Mathlib.Omega.{arith}
 use borrow.Author.Tests.{lt-ltb, le-ltb}
+use Rattle.laws.proofs.Bools.{never}
 use Rattle.laws.proofs.Deciding.{apart}
 use Rattle.slots.specs.declared.Rec.{Rec}
 use Rattle.slots.specs.declared.Cell.{Cell}
-use Rattle.slots.specs.Cells.{nothing, empty, joined, only}
+use Rattle.slots.specs.Cells.{nothing, empty, alone, joined}
 
 abbrev pair : Rec → Rec → Cell
 pair x y = record { front = x; spare = y }
@@ -42,9 +43,12 @@ holds-one {R} (hold2 i j e l p q n) (hold2 i′ j′ e′ l′ p′ q′ n′) =
     jj : j ≡ j′
     jj = ⊎-elim (λ a. ⊎-elim (λ b. omega arith) (λ b. omega arith) (n′ i p)) (λ a. a) (n′ j q)
 
--- a test passes or not
-pub never : {b : Bool} → b ≡ true → b ≡ false → ⊥
-never u v = let z : _≡_ {A = ℕ} 0 1 = cc in omega arith
+-- a cell with only some of its records, those in front where there is one
+abbrev pub only : Bool → Bool → Cell → Cell
+only true true c = c
+only true false c = alone (c .front)
+only false true c = alone (c .spare)
+only false false c = empty
 
 -- those of a cell's records that pass a test
 only-none : (a b : Bool) → only a b empty ≡ empty

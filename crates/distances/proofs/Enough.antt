@@ -13,9 +13,9 @@ use Rattle.array.specs.Cells.{groups, cells, group, place}
 use Rattle.array.proofs.Board.{cell-of, place-in, group-in}
 use Rattle.slots.specs.declared.Rec.{Rec}
 use Rattle.slots.specs.declared.Cell.{Cell}
-use Rattle.slots.specs.Cells.{nothing, empty, joined, only}
+use Rattle.slots.specs.Cells.{joined}
 use Rattle.mesh.specs.declared.Leg.{Leg}
-use Rattle.mesh.specs.Lines.{headOf, reach, endOf, leaves, goersOf, stayersOf, landed, laid, ranLine, distanceOf}
+use Rattle.mesh.specs.Lines.{headOf, reach, endOf, leaves, noneLeaves, landed, laid, ranLine, distanceOf}
 use Rattle.mesh.specs.Mesh.{strideOf, ruleOf, spotOf, lineCell, ranOn}
 use Rattle.mesh.specs.Inside.{Strided, lineStep, goneOf}
 use Rattle.mesh.proofs.Walking.{ends-up, ends-down}
@@ -61,13 +61,6 @@ far-spare l p c h = most-right (farOf l p (c .front)) (farOf l p (c .spare)) h
     most-right : (a b : ℕ) {d : ℕ} → max a b ≤ d → b ≤ d
     most-right a b h = omega arith
 
--- what holds of both slots of a cell, and of an empty one, holds of those of a part of it
-of-only : (P : Rec → Type 0) (a b : Bool) (c : Cell) → P (c .front) → P (c .spare) → P nothing → P (only a b c .front) × P (only a b c .spare)
-of-only P true true c x y z = (x, y)
-of-only P true false c x y z = (x, z)
-of-only P false true c x y z = (y, z)
-of-only P false false c x y z = (z, z)
-
 -- a choice between two that are the same
 either : {A : Type 0} (m : Bool) (c : A) → cond m c c ≡ c
 either true c = refl
@@ -105,33 +98,27 @@ module _ (l : Leg) (a b d : ℕ) (same : (n : ℕ) → n ≤ d → goneOf (ruleO
       go true u r = either (eqb (endOf (ruleOf A) q x) p) c ∙ sym (either (eqb (endOf (ruleOf B) q x) p) c)
       go false u r = ap (λ (e : ℕ). cond (eqb e p) r c) (ends-same q (headOf (ruleOf l) x) u)
 
-  goers-same : (q : ℕ) (c : Cell) → farIn l q c ≤ d → goersOf (ruleOf A) q c ≡ goersOf (ruleOf B) q c
-  unfolding goersOf
-  goers-same q c u = ap₂ (λ (f s : Bool). only f s c) (leaves-same q (c .front) (far-front l q c u)) (leaves-same q (c .spare) (far-spare l q c u))
-
-  stayers-same : (q : ℕ) (c : Cell) → farIn l q c ≤ d → stayersOf (ruleOf A) q c ≡ stayersOf (ruleOf B) q c
-  unfolding stayersOf
-  stayers-same q c u = ap₂ (λ (f s : Bool). only (not f) (not s) c) (leaves-same q (c .front) (far-front l q c u)) (leaves-same q (c .spare) (far-spare l q c u))
-
-  goers-far : (q : ℕ) (c : Cell) → farIn l q c ≤ d → (farOf l q (goersOf (ruleOf B) q c .front) ≤ d) × (farOf l q (goersOf (ruleOf B) q c .spare) ≤ d)
-  unfolding goersOf
-  goers-far q c u =
-      of-only (λ (x : Rec). farOf l q x ≤ d) (leaves (ruleOf B) q (c .front)) (leaves (ruleOf B) q (c .spare)) c (far-front l q c u) (far-spare l q c u) (omega arith)
-
   module _ (U : ℕ → Cell) (far : (q : ℕ) → q < l .side → farIn l q (U q) ≤ d) where
-    laid-same : (p : ℕ) → p < l .side → (n : ℕ) → n ≤ l .side → laid (ruleOf A) U p n ≡ laid (ruleOf B) U p n
+    laid-same : (p n : ℕ) → n ≤ l .side → laid (ruleOf A) U p n ≡ laid (ruleOf B) U p n
     unfolding laid
-    laid-same p h zero k = stayers-same p (U p) (far p h)
-    laid-same p h (suc n) k =
+    laid-same p zero k = refl
+    laid-same p (suc n) k =
         let u = far n (omega arith) in
-        let g = goersOf (ruleOf B) n (U n) in
         let below = laid (ruleOf B) U p n in
-        ap₂ (λ (e c : Cell). landed (ruleOf A) p n (e .spare) (landed (ruleOf A) p n (e .front) c)) (goers-same n (U n) u) (laid-same p h n (omega arith))
-        ∙ landed-same p n (g .spare) (landed (ruleOf A) p n (g .front) below) (goers-far n (U n) u .1)
-        ∙ ap (landed (ruleOf B) p n (g .spare)) (landed-same p n (g .front) below (goers-far n (U n) u .0))
+        ap (λ (c : Cell). landed (ruleOf A) p n (U n .spare) (landed (ruleOf A) p n (U n .front) c)) (laid-same p n (omega arith))
+        ∙ landed-same p n (U n .spare) (landed (ruleOf A) p n (U n .front) below) (far-spare l n (U n) u)
+        ∙ ap (landed (ruleOf B) p n (U n .spare)) (landed-same p n (U n .front) below (far-front l n (U n) u))
+
+    none-same : (S : ℕ → Rec) → ((q : ℕ) → q < l .side → farOf l q (S q) ≤ d) → (n : ℕ) → n ≤ l .side → noneLeaves (ruleOf A) S n ≡ noneLeaves (ruleOf B) S n
+    unfolding noneLeaves
+    none-same S f zero k = refl
+    none-same S f (suc n) k = ap₂ (λ (x y : Bool). x && not y) (none-same S f n (omega arith)) (leaves-same n (S n) (f n (omega arith)))
 
     pub line-same : (p : ℕ) → p < l .side → ranLine (ruleOf A) U p ≡ ranLine (ruleOf B) U p
-    line-same p h = laid-same p h (l .side) (omega arith)
+    line-same p h =
+        let f = none-same (λ q. U q .front) (λ q u. far-front l q (U q) (far q u)) (l .side) (omega arith) in
+        let g = none-same (λ q. U q .spare) (λ q u. far-spare l q (U q) (far q u)) (l .side) (omega arith) in
+        ap₂ (λ (b : Bool) (c : Cell). cond b (U p) c) (ap₂ _&&_ f g) (laid-same p (l .side) (omega arith))
 
 -- a run of which no move is made leaves a line as it is
 module _ (l : Leg) where
@@ -146,25 +133,13 @@ module _ (l : Leg) where
   unfolding leaves
   none-leaves q x = rw (eq-eqb (endOf (ruleOf none) q x) q (none-ends q (headOf (ruleOf none) x))) (either (eqb (x .mark) 0) false)
 
-  none-lands : (p q : ℕ) (c : Cell) → landed (ruleOf none) p q nothing c ≡ c
-  unfolding landed joined
-  none-lands p q c = either (eqb (endOf (ruleOf none) q nothing) p) c
+  none-all : (S : ℕ → Rec) (n : ℕ) → noneLeaves (ruleOf none) S n ≡ true
+  unfolding noneLeaves
+  none-all S zero = refl
+  none-all S (suc n) = rw (none-all S n, none-leaves n (S n))
 
-  none-goers : (q : ℕ) (c : Cell) → goersOf (ruleOf none) q c ≡ empty
-  unfolding goersOf
-  none-goers q c = ap₂ (λ (f s : Bool). only f s c) (none-leaves q (c .front)) (none-leaves q (c .spare))
-
-  none-stayers : (q : ℕ) (c : Cell) → stayersOf (ruleOf none) q c ≡ c
-  unfolding stayersOf
-  none-stayers q c = ap₂ (λ (f s : Bool). only (not f) (not s) c) (none-leaves q (c .front)) (none-leaves q (c .spare))
-
-  none-laid : (U : ℕ → Cell) (p n : ℕ) → laid (ruleOf none) U p n ≡ U p
-  unfolding laid
-  none-laid U p zero = none-stayers p (U p)
-  none-laid U p (suc n) =
-      ap₂ (λ (e c : Cell). landed (ruleOf none) p n (e .spare) (landed (ruleOf none) p n (e .front) c)) (none-goers n (U n)) (none-laid U p n)
-      ∙ none-lands p n (landed (ruleOf none) p n nothing (U p))
-      ∙ none-lands p n (U p)
+  none-ran : (U : ℕ → Cell) (p : ℕ) → ranLine (ruleOf none) U p ≡ U p
+  none-ran U p = rw (none-all (λ q. U q .front) (l .side), none-all (λ q. U q .spare) (l .side))
 
 -- a record that has at most d cells to go is there after d moves, and going late it has not set off while d are left
 first-gone : (l : Leg) (k m : ℕ) → l .late ≡ false → k ≤ m → (n : ℕ) → n ≤ k → goneOf (ruleOf (upTo l k)) n ≡ goneOf (ruleOf (upTo l m)) n
@@ -182,7 +157,7 @@ line-enough l U k m e f h p i = line-same l k m k (first-gone l k m e h) U (λ q
 pub line-idle : (l : Leg) (U : ℕ → Cell) (k d : ℕ) → l .late ≡ true → farthestOn l U ≤ d → k ≤ l .times - d → (p : ℕ) → p < l .side → ranLine (ruleOf (upTo l k)) U p ≡ U p
 line-idle l U k d e f h p i =
     line-same l k 0 d (last-gone l k d e h) U (λ q u. let z = far-on l U q u in omega (arith, z, f)) p i
-    ∙ none-laid l U p (l .side)
+    ∙ none-ran l U p
 
 -- a board that has a cell has a side
 some-side : (s i : ℕ) → i < cells s → 0 < s

@@ -4,7 +4,7 @@ use mathlib.Core.Path.{_≡_}
 use mathlib.Core.Bool.{true}
 use Rattle.laws.proofs.Bools.{both-left, both-right}
 use Rattle.light.specs.Lane.{isBoard}
-use Rattle.light.specs.Slots.{areSlots}
+use Rattle.light.specs.Lanes.{areSlots}
 
 pub record Boards (s a b c : ℕ) : Type 0 where
   pub words : isBoard s a ≡ true

@@ -2,13 +2,14 @@
 use Prim.Native.Nat.{ℕ, zero, suc, min, _+_, _≤_, _<_}
 use mathlib.Core.Path.{_≡_, refl, sym, ap, _∙_}
 use mathlib.Core.Logic.{⊎-elim}
-use mathlib.Core.Bool.{cond}
+use mathlib.Core.Bool.{Bool, true, false, cond}
 use native.Mathlib.Omega.{arith}
 use borrow.Author.Tests.{eq-eqb, ne-eqb, lt-ltb, le-ltb}
 use lib.Dec.{eqb, ltb}
 use Rattle.laws.specs.Sums.{sum}
 use Rattle.laws.proofs.Deciding.{same?, ltb-next}
 use Rattle.laws.proofs.Sums.{sum-cong, sum-nothing}
+use Rattle.laws.proofs.Totals.{sum-point, sum-swap}
 use Rattle.laws.proofs.Trading.{Paired}
 
 -- a sum of which one value changes
@@ -68,3 +69,14 @@ module _ {n : ℕ} {p : ℕ → ℕ} (pairs : Paired n p) {j : ℕ} (h : j < n) 
 
       here : (i : ℕ) → i < n → i ≡ j → cond (ltb (min i (p i)) (j + 1)) (f i) 0 ≡ cond (ltb (min i (p i)) j) (f i) 0
       here i u e = ⊎-elim (λ v. rw (lt-ltb (min i (p i)) (j + 1) (omega (arith, ap p e)), le-ltb (min i (p i)) j (omega (arith, ap p e))) (ap f e ∙ z v)) (λ v. other i (λ w. v (omega (arith, ap p e)))) (same? (p j) j)
+
+-- a sum over partners is the sum
+pub sum-paired-off : {n : ℕ} {p : ℕ → ℕ} → Paired n p → (f : ℕ → ℕ) → sum n (λ i. f (p i)) ≡ sum n f
+sum-paired-off {n} {p} pairs f =
+    sum-cong n (λ i h. sym (only (p i) (pairs .inside i h) (λ j. eqb j (p i)) (eq-eqb (p i) (p i) refl) (λ j d. ne-eqb j (p i) d)))
+    ∙ sum-swap (λ i j. cond (eqb j (p i)) (f j) 0) n n
+    ∙ sum-cong n (λ j h. sum-point (λ i. cond (eqb j (p i)) (f j) 0) n (p j) (pairs .inside j h) (λ i u d. rw (ne-eqb j (p i) (λ e. d (sym (pairs .twice i u) ∙ ap p (sym e)))))
+    ∙ rw (eq-eqb j (p (p j)) (sym (pairs .twice j h))))
+  where
+    only : (k : ℕ) → k < n → (t : ℕ → Bool) → t k ≡ true → ((j : ℕ) → (j ≡ k → ⊥) → t j ≡ false) → sum n (λ j. cond (t j) (f j) 0) ≡ f k
+    only k h t e g = sum-point (λ j. cond (t j) (f j) 0) n k h (λ j u d. rw (g j d)) ∙ rw e

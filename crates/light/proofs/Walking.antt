@@ -1,22 +1,28 @@
 -- The swap of a slot's lanes as it is made: turn after turn, each cell trades with its partner where that comes later, and its record and the partner's are counted.
-use Prim.Native.Nat.{ℕ, _+_, _*_, _≤_, _<_}
-use mathlib.Core.Path.{_≡_, refl, sym, ap, ap₂, _∙_}
+use Prim.Native.Nat.{ℕ, zero, suc, _+_, _*_, _≤_, _<_}
+use mathlib.Core.Path.{_≡_, refl, sym, ap, ap₂, subst, _∙_}
 use mathlib.Core.Logic.{_⊎_, ⊎-elim, inl, inr}
-use mathlib.Core.Bool.{true, false}
+use mathlib.Core.Bool.{Bool, true, false, cond}
 use mathlib.Core.List.{List}
+use native.Mathlib.Numerals.{add-one}
 use native.Mathlib.Omega.{arith}
 use borrow.Author.Tests.{eq-eqb, ne-eqb}
+use lib.Dec.{eqb}
 use lib.ListN.{length, getD}
-use Rattle.laws.proofs.Deciding.{apart}
+use Rattle.laws.proofs.Deciding.{apart, same?}
+use Rattle.laws.proofs.Sums.{sum-cong}
+use Rattle.laws.proofs.Totals.{sum-few}
+use Rattle.laws.proofs.Tables.{entry-at, length-entries}
 use Rattle.laws.proofs.Trading.{Paired}
-use Rattle.array.specs.Cells.{cells, partner}
-use Rattle.light.specs.Lane.{isBoard}
-use Rattle.light.specs.Counts.{markCount, leavesOf}
-use Rattle.light.specs.Slots.{Slots, slots, onBoard, each, Swapped}
-use Rattle.light.specs.Inside.{exchanged, Traded}
+use Rattle.array.specs.Cells.{isSide, cells, partner}
+use Rattle.array.proofs.Board.{Side}
+use Rattle.light.specs.Lane.{isBoard, swappedLane}
+use Rattle.light.specs.Counts.{markCount, leavesOf, leavingOf}
+use Rattle.light.specs.Lanes.{Slots, slots, onBoard, each, swappedBy, Swapped}
+use Rattle.light.specs.Inside.{exchanged, Traded, Once, Times}
 use Rattle.light.proofs.Boards.{Boards, boards-known}
-use Rattle.light.proofs.Leaving.{turned, turned-start, turned-end, turned-trade, turned-skip}
-use Rattle.light.proofs.Turning.{Turning, board-known, board-cells, paired, turning-from, turning-inside, turning-turn, turning-waits, turning-end}
+use Rattle.light.proofs.Leaving.{turned, turned-start, turned-end, turned-trade, turned-skip, sum-paired-off}
+use Rattle.light.proofs.Turning.{Turning, board-known, board-side, board-cells, paired, turning-from, turning-inside, turning-turn, turning-waits, turning-end}
 
 -- two slots' lanes are equal by each
 pub slots-ext : {w m a w′ m′ a′ : List ℕ} → w ≡ w′ → m ≡ m′ → a ≡ a′ → slots w m a ≡ slots w′ m′ a′
@@ -96,12 +102,83 @@ module _ {s n j p moved : ℕ} {t u : Slots} (z : Walking s n j p t u moved) (h 
     so-far = o ∙ ⊎-elim (λ l. ap (λ (x : ℕ). moved + x) (y .trades l .1) ∙ sym (trade l)) (λ l. ap (λ (x : ℕ). moved + x) (y .waits l .1) ∙ omega (arith, skip l)) (apart j p);
   }
 
--- all turns were made: each lane is swapped, and all records that leave are counted
-pub walking-end : {s n j p moved : ℕ} {t u : Slots} → onBoard s t ≡ true → n ≤ j → Walking s n j p t u moved → Swapped s t u moved
-walking-end {s} {n} {j} {t = t} {u} b h z = record {
-  lanes = rw b (slots-ext (turning-end (z .lanes .words) h) (turning-end (z .lanes .marks) h) (turning-end (z .lanes .aims) h));
-  count = rw b (z .so-far ∙ turned-end (cells s) j (partner s) _ (omega (arith, board-cells s n (z .lanes .words .board))));
-}
+leaving-few : (s : ℕ) → Side s → (m : List ℕ) → leavingOf s m ≤ 4096
+leaving-few s k m = omega (arith, k .cells-few, sum-few (λ i. leavesOf (partner s i) i (getD m i 0)) 1 (λ i. few (eqb (partner s i) i) (eqb (getD m i 0) 0)) (cells s))
+  where
+    few : (a b : Bool) → cond a 0 (cond b 0 1) ≤ 1
+    few true b = omega arith
+    few false true = omega arith
+    few false false = omega arith
 
-pub not-walked : (s : ℕ) (t : Slots) → onBoard s t ≡ false → Swapped s t t 0
-not-walked s t h = record { lanes = rw h; count = rw h }
+-- all turns were made: each lane is swapped, and all records that leave are counted
+pub walking-end : {s n j p moved : ℕ} {t u : Slots} → n ≤ j → Walking s n j p t u moved → Once s t u moved
+walking-end {s} {n} {j} {moved = moved} {t = t} {u} h z =
+    let e : moved ≡ leavingOf s (t .marks) = z .so-far ∙ turned-end (cells s) j (partner s) _ (omega (arith, board-cells s n (z .lanes .words .board))) in
+    record {
+      lanes = slots-ext (turning-end (z .lanes .words) h) (turning-end (z .lanes .marks) h) (turning-end (z .lanes .aims) h);
+      count = e;
+      few = omega (arith, e, leaving-few s (board-known s n (z .lanes .words .board)) (t .marks));
+    }
+
+-- a swap takes as many records from their cells as the one before it did
+leaving-swapped : (s : ℕ) (m : List ℕ) → isBoard s (length m) ≡ true → leavingOf s (swappedLane s m) ≡ leavingOf s m
+leaving-swapped s m b =
+    let k = board-known s (length m) b in
+    let pairs = paired s k in
+    sum-cong (cells s) (λ i h. there i h pairs ∙ moved-on i h pairs) ∙ sum-paired-off pairs (λ i. leavesOf (partner s i) i (getD m i 0))
+  where
+    there : (i : ℕ) → i < cells s → Paired (cells s) (partner s) → leavesOf (partner s i) i (getD (swappedLane s m) i 0) ≡ leavesOf (partner s i) i (getD m (partner s i) 0)
+    there i h pairs = ap (λ (n : ℕ). leavesOf (partner s i) i n) {x = getD (swappedLane s m) i 0} {y = getD m (partner s i) 0} (rw b (entry-at (λ j. getD m (partner s j) 0) (cells s) i 0 h))
+
+    moved-on : (i : ℕ) → i < cells s → Paired (cells s) (partner s) → leavesOf (partner s i) i (getD m (partner s i) 0) ≡ leavesOf (partner s (partner s i)) (partner s i) (getD m (partner s i) 0)
+    moved-on i h pairs = rw (pairs .twice i h) (⊎-elim (λ e. rw (eq-eqb (partner s i) i e, eq-eqb i (partner s i) (sym e))) (λ d. rw (ne-eqb (partner s i) i d, ne-eqb i (partner s i) (λ e. d (sym e)))) (same? (partner s i) i))
+
+own-board : (s : ℕ) → isSide s ≡ true → isBoard s (cells s) ≡ true
+own-board s e = rw (e, eq-eqb (cells s) (cells s) refl)
+
+-- many swaps, one after the other
+pub times-start : (s : ℕ) (t : Slots) → Times s 0 t t 0
+unfolding swappedBy
+times-start s t = record { lanes = refl; count = refl; few = omega arith }
+
+lane-board : (s n : ℕ) (l : List ℕ) → isBoard s (length l) ≡ true → isBoard s (length (swappedBy s n l)) ≡ true
+unfolding swappedBy
+lane-board s zero l b = b
+lane-board s (suc n) l b = let c = lane-board s n l b in rw (c, length-entries (λ i. getD (swappedBy s n l) (partner s i) 0) 0 (cells s)) (own-board s (board-side s (length l) b))
+
+leaving-times : (s n : ℕ) (m : List ℕ) → isBoard s (length m) ≡ true → leavingOf s (swappedBy s n m) ≡ leavingOf s m
+unfolding swappedBy
+leaving-times s zero m b = refl
+leaving-times s (suc n) m b = leaving-swapped s (swappedBy s n m) (lane-board s n m b) ∙ leaving-times s n m b
+
+pub times-next : {s j : ℕ} {t u v : Slots} {r r′ : ℕ} → onBoard s t ≡ true → Times s j t u r → Once s u v r′ → Times s (j + 1) t v r′
+unfolding swappedBy
+times-next {s} {j} {t} {u} {v} {r} {r′} b z y = rw add-one (record {
+  lanes = y .lanes ∙ ap (each (swappedLane s)) (z .lanes);
+  count = rw (ne-eqb (suc j) 0 (λ e. omega arith)) (y .count ∙ ap (λ (x : Slots). leavingOf s (x .marks)) (z .lanes) ∙ leaving-times s j (t .marks) (boards-known s (length (t .words)) (length (t .marks)) (length (t .aims)) b .marks));
+  few = y .few;
+})
+
+pub times-board : {s j : ℕ} {t u : Slots} {r : ℕ} → onBoard s t ≡ true → Times s j t u r → onBoard s u ≡ true
+times-board {s} {j} {t} b z =
+    let k = boards-known s (length (t .words)) (length (t .marks)) (length (t .aims)) b in
+    rw (z .lanes, lane-board s j (t .words) (k .words), lane-board s j (t .marks) (k .marks), lane-board s j (t .aims) (k .aims))
+
+pub times-end : {s n j : ℕ} {t u : Slots} {r : ℕ} → n ≤ j → j ≤ n → Times s j t u r → Times s n t u r
+times-end {s} {n} {j} {t} {u} {r} h k z = let e : j ≡ n = omega arith in rw e at z
+
+-- front slots and spare slots
+pub both-swapped : {s n : ℕ} {t t₂ u u₂ : Slots} {a b r : ℕ} → Times s n t u a → Times s n t₂ u₂ b → r ≡ a + b → Swapped s n t t₂ u u₂ r
+both-swapped {s} {n} {t} {t₂} y z e = record { front = y .lanes; spare = z .lanes; count = e ∙ ap₂ _+_ (y .count) (z .count) ∙ go (eqb n 0) }
+  where
+    go : (b : Bool) → cond b 0 (leavingOf s (t .marks)) + cond b 0 (leavingOf s (t₂ .marks)) ≡ cond b 0 (leavingOf s (t .marks) + leavingOf s (t₂ .marks))
+    go true = refl
+    go false = refl
+
+-- as many swaps as there are to make, and some only of a board
+pub some-counted : (a : Bool) (times : ℕ) {b : Bool} {n : ℕ} → n ≡ cond a times 0 → a ≡ b → 0 < n → b ≡ true
+some-counted true times e f h = sym f
+some-counted false times e f h = absurd (omega arith)
+
+pub swapped-counted : (a b : Bool) (times : ℕ) {s n : ℕ} {t t₂ u u₂ : Slots} {r : ℕ} → n ≡ cond a times 0 → a ≡ b → Swapped s n t t₂ u u₂ r → Swapped s (cond b times 0) t t₂ u u₂ r
+swapped-counted a b times {s = s} {t = t} {t₂} {u} {u₂} {r} e f z = subst (λ (k : ℕ). Swapped s k t t₂ u u₂ r) (e ∙ ap (λ (c : Bool). cond c times 0) f) z

@@ -1,15 +1,16 @@
 -- What private functions' contracts cite; the public contracts are read without it.
 use Prim.Native.Nat.{ℕ, suc, min, _+_, _≤_, _<_}
 use mathlib.Core.Path.{_≡_}
-use mathlib.Core.Bool.{cond}
+use mathlib.Core.Bool.{Bool, cond}
 use mathlib.Core.List.{List}
-use lib.Dec.{ltb}
+use lib.Dec.{eqb, ltb}
 use lib.ListN.{length, getD, set}
 use denote.Ref.{now}
 use Rattle.laws.specs.Lent.{Slice, Lent, old, new}
 use Rattle.array.specs.Cells.{cells, cell, partner}
-use Rattle.light.specs.Counts.{markCount}
-use Rattle.light.specs.Slots.{Slots, slots, each}
+use Rattle.light.specs.Lane.{swappedLane}
+use Rattle.light.specs.Counts.{markCount, leavingOf}
+use Rattle.light.specs.Lanes.{areLanes, Slots, slots, each, swappedBy, Swapped}
 
 -- a list of partners, as far as it goes; an empty one is as good
 pub record Listed (s : ℕ) (list : List ℕ) : Type 0 where
@@ -27,6 +28,10 @@ pub record GroupTurned (s g : ℕ) (l l′ : List ℕ) : Type 0 where
 -- a slot's lanes in a requires
 abbrev pub lent : Slice → Slice → Slice → Slots
 lent w m a = slots (now w) (now m) (now a)
+
+abbrev pub lentBoard : ℕ → Slice → Slice → Slice → Slice → Slice → Slice → Bool
+lentBoard s w m a w₂ m₂ a₂ =
+    areLanes s (length (now w)) (length (now m)) (length (now a)) (length (now w₂)) (length (now m₂)) (length (now a₂))
 
 -- three lanes have a cell p
 abbrev pub HasCell : ℕ → Slice → Slice → Slice → Type 0
@@ -47,3 +52,25 @@ pub record Traded (j p : ℕ) (t u : Slots) (r : ℕ) : Type 0 where
 
 abbrev pub TradedSlot : ℕ → ℕ → Lent → Lent → Lent → ℕ → Type 0
 TradedSlot j p w m a r = Traded j p (slots (old w) (old m) (old a)) (slots (new w) (new m) (new a)) r
+
+-- one swap of a slot's lanes
+pub record Once (s : ℕ) (t u : Slots) (r : ℕ) : Type 0 where
+  pub lanes : u ≡ each (swappedLane s) t
+  pub count : r ≡ leavingOf s (t .marks)
+  pub few : r ≤ 4096
+
+abbrev pub SwappedOnce : ℕ → Lent → Lent → Lent → ℕ → Type 0
+SwappedOnce s w m a r = Once s (slots (old w) (old m) (old a)) (slots (new w) (new m) (new a)) r
+
+-- n of them
+pub record Times (s n : ℕ) (t u : Slots) (r : ℕ) : Type 0 where
+  pub lanes : u ≡ each (swappedBy s n) t
+  pub count : r ≡ cond (eqb n 0) 0 (leavingOf s (t .marks))
+  pub few : r ≤ 4096
+
+abbrev pub TradedTimes : ℕ → ℕ → Lent → Lent → Lent → ℕ → Type 0
+TradedTimes s n w m a r = Times s n (slots (old w) (old m) (old a)) (slots (new w) (new m) (new a)) r
+
+abbrev pub TradedLanes : ℕ → ℕ → Lent → Lent → Lent → Lent → Lent → Lent → ℕ → Type 0
+TradedLanes s n w m a w₂ m₂ a₂ r =
+    Swapped s n (slots (old w) (old m) (old a)) (slots (old w₂) (old m₂) (old a₂)) (slots (new w) (new m) (new a)) (slots (new w₂) (new m₂) (new a₂)) r

@@ -1,4 +1,4 @@
 pub mod Counts
 pub mod Inside
 pub mod Lane
-pub mod Slots
+pub mod Lanes

@@ -1,16 +1,16 @@
-// A swap: every cell and its partner, at the other end of the light, exchange what they hold, in a lane of words or in the three lanes of a slot.
+// A swap: every cell and its partner, at the other end of the light, exchange what they hold, in a lane of words or in all six lanes.
 use array::cells::is_cells;
 use array::cells::is_side;
 use links::links;
 ghost use mathlib.Core.Path.{_≡_};
-ghost use mathlib.Core.Bool.{true};
+ghost use mathlib.Core.Bool.{true, cond};
 ghost use Prim.Native.Nat.{ℕ, _+_, _≤_, _<_};
 ghost use lib.ListN.{length, getD};
 ghost use Rattle.array.specs.Cells.{isSide, groups, cells, cell, partner};
 ghost use Rattle.light.specs.Lane.{isBoard, swappedLane};
 ghost use Rattle.light.specs.Counts.{markCount};
-ghost use Rattle.light.specs.Slots.{areSlots, onBoard, SwappedSlots};
-ghost use Rattle.light.specs.Inside.{Listed, GroupTurned, lent, HasCell, Exchanged, TradedSlot};
+ghost use Rattle.light.specs.Lanes.{areSlots, areLanes, onBoard, SwappedLanes};
+ghost use Rattle.light.specs.Inside.{Listed, GroupTurned, lent, lentBoard, HasCell, Exchanged, TradedSlot, SwappedOnce, TradedTimes, TradedLanes};
 
 // A lane of n entries is one of a board.
 pub fn is_board(side: usize, n: usize) -> bool
@@ -23,7 +23,7 @@ pub fn is_board(side: usize, n: usize) -> bool
 }
 
 // Three lanes of these lengths are those of a board's front slots, or of its spare ones.
-pub fn are_slots(side: usize, words: usize, marks: usize, aims: usize) -> bool
+fn are_slots(side: usize, words: usize, marks: usize, aims: usize) -> bool
     ensures { λ r. ⌜ r ≡ areSlots side words marks aims ⌝ }
 {
     if !is_board(side, words) {
@@ -33,6 +33,24 @@ pub fn are_slots(side: usize, words: usize, marks: usize, aims: usize) -> bool
         return false;
     }
     is_board(side, aims)
+}
+
+// Six lanes of these lengths are those of a board.
+pub fn are_lanes(
+    side: usize,
+    words: usize,
+    marks: usize,
+    aims: usize,
+    spare_words: usize,
+    spare_marks: usize,
+    spare_aims: usize,
+) -> bool
+    ensures { λ r. ⌜ r ≡ areLanes side words marks aims «spare_words» «spare_marks» «spare_aims» ⌝ }
+{
+    if !are_slots(side, words, marks, aims) {
+        return false;
+    }
+    are_slots(side, spare_words, spare_marks, spare_aims)
 }
 
 fn wide(x: u16) -> usize
@@ -166,7 +184,7 @@ fn trade_slots(
 ) -> usize
     requires { ⌜ onBoard side (lent words marks aims) ≡ true ⌝ }
     requires { ⌜ Listed side (now list) ⌝ }
-    ensures { λ r. ⌜ SwappedSlots side words marks aims r ⌝ }
+    ensures { λ r. ⌜ SwappedOnce side words marks aims r ⌝ }
 {
     let n = words.len();
     let mut moved: usize = 0;
@@ -180,17 +198,113 @@ fn trade_slots(
     moved
 }
 
-// The lanes of the front slots, or of the spare ones, swap; how many of their records are in another cell. Lanes that are not a board's stay.
-pub fn swap_slots(side: usize, words: &mut [u32], marks: &mut [u8], aims: &mut [u16]) -> usize
-    ensures { λ r. ⌜ SwappedSlots side words marks aims r ⌝ }
+// So many swaps of one slot's lanes; how many of their records each takes to another cell, where there is one.
+fn trade_times(
+    side: usize,
+    times: usize,
+    list: &[u16],
+    words: &mut [u32],
+    marks: &mut [u8],
+    aims: &mut [u16],
+) -> usize
+    requires { ⌜ (0 < times → onBoard side (lent words marks aims) ≡ true) ⌝ }
+    requires { ⌜ Listed side (now list) ⌝ }
+    ensures { λ r. ⌜ TradedTimes side times words marks aims r ⌝ }
 {
-    if !are_slots(side, words.len(), marks.len(), aims.len()) {
-        return 0;
+    let mut moved: usize = 0;
+    let mut j: usize = 0;
+    while j < times {
+        moved = trade_slots(side, list, words, marks, aims);
+        j += 1;
     }
-    if side == 8 {
+    moved
+}
+
+// The same in both slots.
+fn trade_lanes(
+    side: usize,
+    times: usize,
+    list: &[u16],
+    words: &mut [u32],
+    marks: &mut [u8],
+    aims: &mut [u16],
+    spare_words: &mut [u32],
+    spare_marks: &mut [u8],
+    spare_aims: &mut [u16],
+) -> usize
+    requires { ⌜ (0 < times → lentBoard side words marks aims «spare_words» «spare_marks» «spare_aims» ≡ true) ⌝ }
+    requires { ⌜ Listed side (now list) ⌝ }
+    ensures { λ r. ⌜ TradedLanes side times words marks aims «spare_words» «spare_marks» «spare_aims» r ⌝ }
+{
+    let front = trade_times(side, times, list, words, marks, aims);
+    front + trade_times(side, times, list, spare_words, spare_marks, spare_aims)
+}
+
+fn counted(are: bool, times: usize) -> usize
+    ensures { λ r. ⌜ r ≡ cond are times 0 ⌝ }
+{
+    if are { times } else { 0 }
+}
+
+// The board of side 8 goes by its link list, where there is a swap to make.
+fn by_links(side: usize, times: usize) -> bool
+    ensures { λ r. ⌜ (r ≡ true → side ≡ 8) ⌝ }
+{
+    if times == 0 {
+        return false;
+    }
+    side == 8
+}
+
+// So many swaps of all six lanes; how many records each takes to another cell. Lanes that are not a board's stay.
+pub fn swap_lanes(
+    side: usize,
+    times: usize,
+    words: &mut [u32],
+    marks: &mut [u8],
+    aims: &mut [u16],
+    spare_words: &mut [u32],
+    spare_marks: &mut [u8],
+    spare_aims: &mut [u16],
+) -> usize
+    ensures { λ r. ⌜ SwappedLanes side times words marks aims «spare_words» «spare_marks» «spare_aims» r ⌝ }
+{
+    let n = counted(
+        are_lanes(
+            side,
+            words.len(),
+            marks.len(),
+            aims.len(),
+            spare_words.len(),
+            spare_marks.len(),
+            spare_aims.len(),
+        ),
+        times,
+    );
+    if by_links(side, n) {
         let list = links();
-        return trade_slots(side, &list[..], words, marks, aims);
+        return trade_lanes(
+            side,
+            n,
+            &list[..],
+            words,
+            marks,
+            aims,
+            spare_words,
+            spare_marks,
+            spare_aims,
+        );
     }
     let none = [0u16; 1];
-    trade_slots(side, &none[..0], words, marks, aims)
+    trade_lanes(
+        side,
+        n,
+        &none[..0],
+        words,
+        marks,
+        aims,
+        spare_words,
+        spare_marks,
+        spare_aims,
+    )
 }

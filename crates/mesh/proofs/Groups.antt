@@ -1,29 +1,30 @@
 -- The lines of a group make a run one after the other, and so do the groups of a board.
-use Prim.Native.Nat.{ℕ, suc, _+_, _-_, _*_, _/_, _%_, _≤_, _<_}
+use Prim.Native.Nat.{ℕ, zero, suc, _+_, _-_, _*_, _/_, _%_, _≤_, _<_}
 use mathlib.Core.Path.{_≡_, refl, sym, ap, ap₂, subst, _∙_}
 use mathlib.Core.Logic.{⊎-elim}
 use mathlib.Core.Bool.{Bool, true, false, cond}
 use mathlib.Core.List.{List}
-use native.Mathlib.Nat.{suc-mul, mul-le-mul-right, mul-pos, div-add-mod', mod-lt, add-zero, mul-one}
+use native.Mathlib.Nat.{suc-mul, mul-le-mul-right, mul-pos, div-add-mod', mod-lt, mod-le, add-zero, mul-one}
 use native.Mathlib.Numerals.{add-one}
 use native.Mathlib.Omega.{arith}
-use borrow.Author.Tests.{lt-ltb, le-ltb}
+use borrow.Author.Tests.{lt-ltb, le-ltb, eq-eqb, eqb-true}
 use lib.Dec.{eqb, ltb}
 use lib.ListN.{length, getD}
 use denote.Ref.{now}
 use Rattle.laws.specs.Lent.{Lent}
+use Rattle.laws.proofs.Bools.{never}
 use Rattle.laws.specs.Sums.{sum}
 use Rattle.laws.proofs.Sums.{sum-cong, sum-add, sum-blocks}
-use Rattle.laws.proofs.Totals.{sum-few, sum-swap}
+use Rattle.laws.proofs.Totals.{sum-zero, sum-few, sum-swap}
 use Rattle.laws.proofs.Deciding.{apart, same?}
 use Rattle.array.specs.Cells.{groups, cells, group}
 use Rattle.array.proofs.Board.{group-of}
 use Rattle.slots.specs.declared.Rec.{Rec}
 use Rattle.slots.specs.declared.Cell.{Cell}
 use Rattle.mesh.specs.declared.lines.Rule.{Rule}
-use Rattle.mesh.specs.Lines.{headOf, leaves, distanceOf, ranLine, wentOf, wentFrom}
-use Rattle.mesh.specs.Mesh.{spotOf, ranOn, wentIn, RanLanes}
-use Rattle.mesh.specs.Inside.{Strided, lineStep, Lies, RanLine, RanGroup, RanPart}
+use Rattle.mesh.specs.Lines.{headOf, reach, leaves, noneLeaves, distanceOf, ranLine, wentOf, wentFrom}
+use Rattle.mesh.specs.Mesh.{spotOf, lineCell, ranOn, wentIn, RanLanes}
+use Rattle.mesh.specs.Inside.{Strided, lineStep, movingGroups, Lies, RanLine, RanGroup, RanPart}
 use Rattle.mesh.proofs.Slots.{distinct}
 use Rattle.mesh.proofs.Spots.{by-stride, run-same, lineOf, Spotted, Split, spotted, split, line-in, line-cell, ran-spotted, ran-part, spot-shifted}
 
@@ -171,16 +172,63 @@ module _ {t : Rule} {g base : ℕ} {T C : ℕ → Cell} {now₁ : List ℕ} (pos
       above : (i : ℕ) → i < cells (t .side) → base + N ≤ i → C′ i ≡ cond (ltb i (base + N)) (ranOn t T i) (T i)
       above i u h = rw (le-ltb i (base + N) h) (m .after i h ∙ (rw (le-ltb i base (omega arith)) at (z .made i u)))
 
-pub never : {b : Bool} → b ≡ true → b ≡ false → ⊥
-never u v = let z : _≡_ {A = ℕ} 0 1 = cc in omega arith
+-- a run of which no move is made does nothing
+module _ (t : Rule) (none : t .made ≡ 0) where
+  stays-there : (p : ℕ) (x : Rec) → leaves t p x ≡ false
+  unfolding leaves reach
+  stays-there p x = rw (none, eq-eqb p p refl) (either (eqb (x .mark) 0))
+    where
+      either : (b : Bool) → cond b false false ≡ false
+      either true = refl
+      either false = refl
 
-pub ranged-end : {lanes : Bool} {t u : Rule} {g base : ℕ} {T C : ℕ → Cell} {counts : List ℕ} → lanes ≡ true → t ≡ u → groups (t .side) ≤ g → Ranged t g base T C counts → RanLanes lanes u counts T C
-ranged-end {lanes} {t} {u} {g} {base} {T} {C} {counts} e f h z =
-    let b : base ≡ cells (t .side) = z .upto ∙ ap (λ (n : ℕ). n * groups (t .side)) (omega (arith, z .within)) in
+  all-stay : (S : ℕ → Rec) (n : ℕ) → noneLeaves t S n ≡ true
+  unfolding noneLeaves
+  all-stay S zero = refl
+  all-stay S (suc n) = rw (all-stay S n, stays-there n (S n))
+
+  pub still-none : (U : ℕ → Cell) (p : ℕ) → ranLine t U p ≡ U p
+  still-none U p = rw (all-stay (λ q. U q .front) (t .side), all-stay (λ q. U q .spare) (t .side))
+
+  ran-none : (T : ℕ → Cell) (i : ℕ) → 0 < t .side → 0 < t .stride → ranOn t T i ≡ T i
+  unfolding ranOn
+  ran-none T i pos stride =
+      still-none (λ q. T (lineCell t i q)) (spotOf t i)
+      ∙ ap T (omega (arith, mul-le-mul-right {m = spotOf t i} {n = i / t .stride} (t .stride) (mod-le (i / t .stride) (t .side)), div-add-mod' i (t .stride)))
+
+  went-none : (d p : ℕ) (c : Cell) → wentFrom t d p c ≡ 0
+  unfolding wentOf
+  went-none d p c = rw (stays-there p (c .front), stays-there p (c .spare))
+
+-- the groups that have something to do are among all
+pub moving-few : (t : Rule) {g n : ℕ} → n ≡ movingGroups t → g < n → g < groups (t .side)
+moving-few t {g} {n} e h = go (eqb (t .made) 0) e
+  where
+    go : (b : Bool) → n ≡ cond b 0 (groups (t .side)) → g < groups (t .side)
+    go true f = absurd (omega arith)
+    go false f = omega arith
+
+pub ranged-end : {lanes : Bool} {t u : Rule} {g n base : ℕ} {T C : ℕ → Cell} {counts : List ℕ} → lanes ≡ true → t ≡ u → 0 < t .side → 0 < t .stride → n ≡ movingGroups t → n ≤ g
+    → Ranged t g base T C counts → RanLanes lanes u counts T C
+ranged-end {lanes} {t} {u} {g} {n} {base} {T} {C} {counts} e f pos stride k h z =
     subst (λ (u : Rule). RanLanes lanes u counts T C) f
-    (record {
-      made = λ y i v. rw (lt-ltb i base (omega arith)) at (z .made i v);
-      went = λ y d v. z .count d v ∙ ap (λ (n : ℕ). sum n (λ i. wentFrom t d (spotOf t i) (T i))) b;
-      kept = λ y. absurd (never e y);
-      none = λ y. absurd (never e y);
-    })
+    (record { made = λ y. made (eqb (t .made) 0) refl; went = λ y. went (eqb (t .made) 0) refl; kept = λ y. absurd (never e y); none = λ y. absurd (never e y) })
+  where
+    all : eqb (t .made) 0 ≡ false → base ≡ cells (t .side)
+    all o =
+        let m : n ≡ groups (t .side) = k ∙ ap (λ (b : Bool). cond b 0 (groups (t .side))) o in
+        z .upto ∙ ap (λ (n : ℕ). n * groups (t .side)) (omega (arith, z .within, m))
+
+    made : (b : Bool) → eqb (t .made) 0 ≡ b → (i : ℕ) → i < cells (t .side) → C i ≡ ranOn t T i
+    made true o i v = z .made i v ∙ same (ltb i base) (ran-none t (eqb-true (t .made) 0 o) T i pos stride)
+      where
+        same : (b : Bool) → ranOn t T i ≡ T i → cond b (ranOn t T i) (T i) ≡ ranOn t T i
+        same true w = refl
+        same false w = sym w
+    made false o i v = rw (lt-ltb i base (omega (arith, all o))) at (z .made i v)
+
+    went : (b : Bool) → eqb (t .made) 0 ≡ b → (d : ℕ) → d < 8 → getD counts d 0 ≡ wentIn t d T
+    went true o d v =
+        z .count d v ∙ sum-zero (λ i. wentFrom t d (spotOf t i) (T i)) base (λ i w. went-none t (eqb-true (t .made) 0 o) d (spotOf t i) (T i))
+        ∙ sym (sum-zero (λ i. wentFrom t d (spotOf t i) (T i)) (cells (t .side)) (λ i w. went-none t (eqb-true (t .made) 0 o) d (spotOf t i) (T i)))
+    went false o d v = z .count d v ∙ ap (λ (n : ℕ). sum n (λ i. wentFrom t d (spotOf t i) (T i))) (all o)

@@ -220,7 +220,7 @@ ran-moved {t} {start} {S} {S₂} fronts spares {line} {a} {b} {counts} few still
     }
 
 -- a line that nothing leaves
-stays-all : (t : Rule) (S : ℕ → Rec) (n : ℕ) → noneLeaves t S n ≡ true → (p : ℕ) → p < n → leaves t p (S p) ≡ false
+pub stays-all : (t : Rule) (S : ℕ → Rec) (n : ℕ) → noneLeaves t S n ≡ true → (p : ℕ) → p < n → leaves t p (S p) ≡ false
 unfolding noneLeaves
 stays-all t S zero e p h = absurd (omega arith)
 stays-all t S (suc n) e p h =

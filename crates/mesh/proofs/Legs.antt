@@ -7,6 +7,7 @@ use mathlib.Core.List.{List}
 use native.Mathlib.Nat.{mul-pos, mul-assoc, one-mul, mul-one, mul-le-mul}
 use native.Mathlib.Omega.{arith}
 use lib.ListN.{getD, replicate}
+use Rattle.laws.proofs.Bools.{never}
 use Rattle.array.specs.declared.moves.Way.{Way}
 use Rattle.array.specs.declared.moves.Way.the-variants.{Right, Left, Up, Down}
 use Rattle.array.specs.Cells.{isSide, groups, cells, group, place}
@@ -17,7 +18,7 @@ use Rattle.mesh.specs.declared.Leg.{Leg}
 use Rattle.mesh.specs.Mesh.{strideOf, unitOf, ruleOf, ranOn, RanLanes}
 use Rattle.mesh.specs.Inside.{shareOf, Ruled, Strided}
 use Rattle.mesh.proofs.Spots.{ran-part}
-use Rattle.mesh.proofs.Groups.{part-fits, never}
+use Rattle.mesh.proofs.Groups.{part-fits}
 
 -- the digits of an aim are those of a number below 4,096
 module _ {s : ℕ} (k : Side s) where

@@ -50,6 +50,10 @@ Strided t = (t .stride ≡ 1) ⊎ (t .stride ≡ t .side)
 abbrev pub lineStep : Rule → ℕ
 lineStep t = cond (eqb (t .stride) 1) (t .side) 1
 
+-- how many groups have something to do
+abbrev pub movingGroups : Rule → ℕ
+movingGroups t = cond (eqb (t .made) 0) 0 (groups (t .side))
+
 -- counts that leave room
 pub record Roomy (most : ℕ) (counts : Slice) : Type 0 where
   pub long : length (now counts) ≡ 8

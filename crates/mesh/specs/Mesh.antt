@@ -9,8 +9,9 @@ use Rattle.array.specs.declared.moves.Way.{Way}
 use Rattle.array.specs.declared.moves.Way.the-variants.{Right, Left, Up, Down}
 use Rattle.array.specs.Cells.{groups, cells}
 use Rattle.laws.specs.Lent.{Lent}
+use Rattle.light.specs.Lanes.{haveBoard}
 use Rattle.slots.specs.declared.Cell.{Cell}
-use Rattle.slots.specs.Lanes.{haveBoard, FromTo}
+use Rattle.slots.specs.Lanes.{FromTo}
 use Rattle.mesh.specs.declared.lines.Rule.{Rule}
 use Rattle.mesh.specs.declared.Leg.{Leg}
 use Rattle.mesh.specs.Lines.{digitOf, ranLine, goesAt, wentFrom}

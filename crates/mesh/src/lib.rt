@@ -6,13 +6,13 @@ use crate::lines::Rule;
 use crate::lines::run_line;
 use array::moves::Way;
 use laws::least;
-use slots::are_lanes;
+use light::are_lanes;
 ghost use mathlib.Core.Path.{_≡_};
 ghost use Prim.Native.Nat.{ℕ, _+_, _*_, _≤_};
 ghost use Rattle.array.specs.Cells.{groups, cells};
 ghost use Rattle.slots.specs.Lanes.{FromTo, Long};
 ghost use Rattle.mesh.specs.Mesh.{strideOf, unitOf, goesUp, goesDown, ruleOf, RanAll};
-ghost use Rattle.mesh.specs.Inside.{shareOf, Ruled, Roomy, Strided, lineStep, RanGroup, RanPart};
+ghost use Rattle.mesh.specs.Inside.{shareOf, Ruled, Roomy, Strided, lineStep, movingGroups, RanGroup, RanPart};
 
 // A run one way, as far as it is made: whether a record heads for its aim mod N (low) or div N, whether it goes as late as it can, how many
 // moves the run has and how many of them are made.
@@ -100,6 +100,17 @@ fn line_step(t: Rule) -> usize
     ensures { λ r. ⌜ r ≡ lineStep t ⌝ }
 {
     if t.stride == 1 { t.side } else { 1 }
+}
+
+// How many groups have something to do: none, where no move is made.
+fn moving_groups(t: Rule) -> usize
+    requires { ⌜ t .side ≤ 8 ⌝ }
+    ensures { λ r. ⌜ r ≡ movingGroups t ⌝ }
+{
+    if t.made == 0 {
+        return 0;
+    }
+    t.side * t.side
 }
 
 // All lines of a group, whose own stretch of the lanes is lent.
@@ -201,7 +212,8 @@ pub fn run_all(
     }
     let t = rule_of(leg);
     let share = share(t);
-    let groups = t.side * t.side;
+    let size = t.side * t.side;
+    let groups = moving_groups(t);
     let mut base: usize = 0;
     let mut g: usize = 0;
     while g < groups {
@@ -217,7 +229,7 @@ pub fn run_all(
             spare_marks,
             spare_aims,
         );
-        base += groups;
+        base += size;
         g += 1;
     }
     counts

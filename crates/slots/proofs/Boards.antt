@@ -8,11 +8,10 @@ use lib.ListN.{length}
 use Rattle.laws.proofs.Bools.{both-left, both-right}
 use Rattle.array.specs.Cells.{isSide, cells}
 use Rattle.light.specs.Lane.{isBoard}
-use Rattle.light.specs.Slots.{areSlots}
+use Rattle.light.specs.Lanes.{areSlots, areLanes}
 use Rattle.light.proofs.Boards.{boards-known}
 use Rattle.light.proofs.Turning.{board-side, board-cells}
 use Rattle.slots.specs.Cells.{Sized}
-use Rattle.slots.specs.Lanes.{areLanes}
 
 -- what is known of lanes that are those of a board
 pub record Lanes (s : ℕ) (w m a w₂ m₂ a₂ : List ℕ) : Type 0 where

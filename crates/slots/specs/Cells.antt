@@ -1,6 +1,6 @@
 -- What a cell holds: a record in front, and a second one in the spare slot. A slot without a record holds 0 in every lane.
 use Prim.Native.Nat.{ℕ, _+_}
-use mathlib.Core.Bool.{Bool, true, false, cond}
+use mathlib.Core.Bool.{cond}
 use mathlib.Core.Path.{_≡_}
 use mathlib.Core.List.{List}
 use lib.ListN.{length, getD}
@@ -26,13 +26,6 @@ joined c x =
     (cond (eqb (c .front .mark) 0)
     (alone x)
     (cond (ltb (x .aim) (c .front .aim)) (record { front = x; spare = c .front }) (record { front = c .front; spare = x })))
-
--- a cell with only some of its records, those in front where there is one
-abbrev pub only : Bool → Bool → Cell → Cell
-only true true c = c
-only true false c = alone (c .front)
-only false true c = alone (c .spare)
-only false false c = empty
 
 -- the record in cell i of three lanes, and what cell i of six lanes holds
 abbrev pub recordIn : List ℕ → List ℕ → List ℕ → ℕ → Rec

@@ -1,20 +1,9 @@
 -- Six lanes that a function is lent, in its contract by their names alone: the cells that they held, and the cells that they hold.
 use Prim.Native.Nat.{ℕ}
-use mathlib.Core.Bool.{Bool, _&&_}
-use lib.ListN.{length}
 use denote.Ref.{now}
 use Rattle.laws.specs.Lent.{Slice, Lent, old, new}
-use Rattle.light.specs.Slots.{areSlots}
 use Rattle.slots.specs.declared.Cell.{Cell}
 use Rattle.slots.specs.Cells.{cellAt, Sized}
-
--- six lanes of these lengths are those of a board
-abbrev pub areLanes : ℕ → ℕ → ℕ → ℕ → ℕ → ℕ → ℕ → Bool
-areLanes s a b c d e f = areSlots s a b c && areSlots s d e f
-
-abbrev pub haveBoard : ℕ → Lent → Lent → Lent → Lent → Lent → Lent → Bool
-haveBoard s w m a w₂ m₂ a₂ =
-    areLanes s (length (old w)) (length (old m)) (length (old a)) (length (old w₂)) (length (old m₂)) (length (old a₂))
 
 -- what cell i held before, and what it holds
 abbrev pub cellsBefore : Lent → Lent → Lent → Lent → Lent → Lent → ℕ → Cell

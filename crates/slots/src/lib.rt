@@ -1,9 +1,7 @@
 // What a cell holds: a record, and a second one in the spare slot.
-use light::are_slots;
 ghost use mathlib.Core.Path.{_≡_};
 ghost use mathlib.Core.Bool.{true};
-ghost use Rattle.slots.specs.Lanes.{areLanes};
-ghost use Rattle.slots.specs.Cells.{nothing as nothingOf, empty as emptyOf, alone as aloneOf, joined as joinedOf, only as onlyOf};
+ghost use Rattle.slots.specs.Cells.{nothing as nothingOf, empty as emptyOf, alone as aloneOf, joined as joinedOf};
 
 // A record: its word, its mark (1, or 0 where there is none) and its aim.
 pub struct Rec {
@@ -67,38 +65,4 @@ pub fn joined(c: Cell, x: Rec) -> Cell
         front: front,
         spare: x,
     }
-}
-
-// A cell with only some of its records.
-pub fn only(front: bool, spare: bool, c: Cell) -> Cell
-    ensures { λ r. ⌜ r ≡ onlyOf front spare c ⌝ }
-{
-    if front {
-        if spare {
-            return c;
-        }
-        return alone(c.front);
-    }
-    if spare {
-        return alone(c.spare);
-    }
-    empty()
-}
-
-// Six lanes of these lengths are those of a board.
-pub fn are_lanes(
-    side: usize,
-    words: usize,
-    marks: usize,
-    aims: usize,
-    spare_words: usize,
-    spare_marks: usize,
-    spare_aims: usize,
-) -> bool
-    ensures { λ r. ⌜ r ≡ areLanes side words marks aims «spare_words» «spare_marks» «spare_aims» ⌝ }
-{
-    if !are_slots(side, words, marks, aims) {
-        return false;
-    }
-    are_slots(side, spare_words, spare_marks, spare_aims)
 }

@@ -3,9 +3,6 @@ use borrow.Author.Tests.{not-true, not-false}
 use borrow.Author.Needs.{needs}
 use Rattle.light.proofs.are_slots.Statement.{statement}
 use Rattle.light.proofs.are_slots.Tie as tie
-use Rattle.light.proofs.are_slots.Reads as reads
-use Rattle.light.proofs.are_slots.Lts as lts
-use Rattle.light.proofs.is_board.Reads as is-board-reads
 
 is-board-requires : tie.Need-is-board-requires
 is-board-requires c κs = search needs

@@ -2,7 +2,7 @@ use Prim.Native.Nat.{_-_}
 use mathlib.Core.Path.{refl, sym, _∙_}
 use native.Mathlib.Omega.{arith}
 use lib.ListN.{length}
-use Rattle.light.specs.Slots.{slots}
+use Rattle.light.specs.Lanes.{slots}
 use Rattle.light.proofs.Turning.{board-side, turning-few, turning-long, turning-inside, turning-partner}
 use Rattle.light.proofs.Walking.{Walking, walking-start, walking-step, walking-end}
 use Rattle.light.proofs.trade_slots.Statement.{statement}
@@ -53,7 +53,7 @@ same-length-3 : tie.Need-same-length-3 Inv-loop μ-loop
 same-length-3 c = let z = c .before .loop .inv .lanes .aims in turning-long z ∙ sym (z .long)
 
 returns : tie.Need-returns Inv-loop μ-loop
-returns c = walking-end (c .before .before .before .before .before .before .pre .0) (c .loop-test .left) (c .before .loop .inv)
+returns c = walking-end (c .loop-test .left) (c .before .loop .inv)
 
 pub trade-slots-spec : {M : Type 1} → statement M
 trade-slots-spec =

@@ -1,27 +1,27 @@
-use borrow.Author.Needs.{needs}
-use Rattle.mesh.specs.Inside.{Ruled, Strided}
 use Prim.Native.Nat.{ℕ, _-_, _+_, _≤_}
 use mathlib.Core.Path.{_≡_, refl, sym, ap, _∙_}
 use native.Mathlib.Omega.{arith}
 use borrow.Author.Tests.{not-true, not-false}
+use borrow.Author.Needs.{needs}
 use Rattle.array.specs.Cells.{groups as groupsOf, cells}
 use Rattle.array.proofs.Board.{side-known}
 use Rattle.slots.specs.Cells.{Sized, cellAt}
 use Rattle.slots.proofs.Boards.{lanes-known}
+use Rattle.mesh.specs.Inside.{movingGroups, Ruled, Strided}
 use Rattle.mesh.proofs.Ruling.{known}
-use Rattle.mesh.proofs.Groups.{Ranged, ranged-start, ranged-step, ranged-few, ranged-end, part-fits}
+use Rattle.mesh.proofs.Groups.{Ranged, ranged-start, ranged-step, ranged-few, ranged-end, part-fits, moving-few}
 use Rattle.mesh.proofs.Legs.{period-few, ruled, no-counts, ran-none}
 use Rattle.mesh.proofs.run_all.Statement.{statement}
 use Rattle.mesh.proofs.run_all.Tie as tie
-use Rattle.slots.proofs.are_lanes.Reads as are-lanes-reads
+use Rattle.light.proofs.are_lanes.Reads as are-lanes-reads
 
 abbrev Inv-loop : tie.InvT-loop
-Inv-loop words₀ marks₀ aims₀ spare-words₀ spare-marks₀ spare-aims₀ counts₀ t share groups base₀ g₀ words marks aims spare-words spare-marks spare-aims counts base g =
-    (groups ≡ groupsOf (t .side)) × Ruled t share × Strided t × Sized (cells (t .side)) words marks aims spare-words spare-marks spare-aims
+Inv-loop words₀ marks₀ aims₀ spare-words₀ spare-marks₀ spare-aims₀ counts₀ t share size groups base₀ g₀ words marks aims spare-words spare-marks spare-aims counts base g =
+    (size ≡ groupsOf (t .side)) × (groups ≡ movingGroups t) × Ruled t share × Strided t × Sized (cells (t .side)) words marks aims spare-words spare-marks spare-aims
     × Ranged t g base (cellAt words₀ marks₀ aims₀ spare-words₀ spare-marks₀ spare-aims₀) (cellAt words marks aims spare-words spare-marks spare-aims) counts
 
 abbrev μ-loop : tie.MeasureT-loop
-μ-loop words₀ marks₀ aims₀ spare-words₀ spare-marks₀ spare-aims₀ counts₀ t share groups base₀ g₀ words marks aims spare-words spare-marks spare-aims counts base g =
+μ-loop words₀ marks₀ aims₀ spare-words₀ spare-marks₀ spare-aims₀ counts₀ t share size groups base₀ g₀ words marks aims spare-words spare-marks spare-aims counts base g =
     groups - g
 
 are-lanes-requires : tie.Need-are-lanes-requires Inv-loop μ-loop
@@ -33,27 +33,34 @@ returns c = ran-none (sym (c .before .are-lanes .ensures) ∙ not-true _ (c .if1
 rule-of-requires : tie.Need-rule-of-requires Inv-loop μ-loop
 rule-of-requires c κs = let a = c .before .before .before .before .before .before .before .before .args in
     let e = sym (c .before .are-lanes .ensures) ∙ not-false _ (c .if1 .left) in
-    let k = side-known (a .leg .side) (lanes-known (a .leg .side) (a .words .now) (a .marks .now) (a .aims .now) (a .spare-words .now) (a .spare-marks .now) (a .spare-aims .now) e .side) in
-    (k .least, k .most)
+    let k = lanes-known (a .leg .side) (a .words .now) (a .marks .now) (a .aims .now) (a .spare-words .now) (a .spare-marks .now) (a .spare-aims .now) e in
+    let s = side-known (a .leg .side) (k .side) in
+    (s .least, s .most)
 
 share-requires : tie.Need-share-requires Inv-loop μ-loop
 share-requires c κs = let a = c .before .before .before .before .before .before .before .before .before .args in
     let e = sym (c .before .before .are-lanes .ensures) ∙ not-false _ (c .before .if1 .left) in
-    let k = side-known (a .leg .side) (lanes-known (a .leg .side) (a .words .now) (a .marks .now) (a .aims .now) (a .spare-words .now) (a .spare-marks .now) (a .spare-aims .now) e .side) in
-    rw (c .rule-of .ensures) (period-few k (a .leg .low) (a .leg .way))
+    let k = lanes-known (a .leg .side) (a .words .now) (a .marks .now) (a .aims .now) (a .spare-words .now) (a .spare-marks .now) (a .spare-aims .now) e in
+    rw (c .rule-of .ensures) (period-few (side-known (a .leg .side) (k .side)) (a .leg .low) (a .leg .way))
 
-mul-groups : tie.Need-mul-groups Inv-loop μ-loop
-mul-groups c = let a = c .before .before .before .before .before .before .before .before .before .before .before .args in
-    let e = sym (c .before .before .before .before .are-lanes .ensures) ∙ not-false _ (c .before .before .before .if1 .left) in
-    let k = side-known (a .leg .side) (lanes-known (a .leg .side) (a .words .now) (a .marks .now) (a .aims .now) (a .spare-words .now) (a .spare-marks .now) (a .spare-aims .now) e .side) in
-    rw (c .before .before .rule-of .ensures) (omega (arith, k .groups-few))
-
-loop-holds : tie.Need-loop-holds Inv-loop μ-loop
-loop-holds c = let a = c .before .before .before .before .before .before .before .before .before .before .before .args in
+mul-size : tie.Need-mul-size Inv-loop μ-loop
+mul-size c = let a = c .before .before .before .before .before .before .before .before .before .before .before .args in
     let e = sym (c .before .before .before .before .are-lanes .ensures) ∙ not-false _ (c .before .before .before .if1 .left) in
     let k = lanes-known (a .leg .side) (a .words .now) (a .marks .now) (a .aims .now) (a .spare-words .now) (a .spare-marks .now) (a .spare-aims .now) e in
-    let z = ruled (a .leg) (k .side) (c .before .before .rule-of .ensures) (c .before .share .ensures) in
-    (refl, z .0, z .1, rw (c .before .before .rule-of .ensures) (k .sized), ranged-start _ _ refl (no-counts 8))
+    rw (c .before .before .rule-of .ensures) (omega (arith, side-known (a .leg .side) (k .side) .groups-few))
+
+moving-groups-requires : tie.Need-moving-groups-requires Inv-loop μ-loop
+moving-groups-requires c κs = let a = c .before .before .before .before .before .before .before .before .before .before .before .args in
+    let e = sym (c .before .before .before .before .are-lanes .ensures) ∙ not-false _ (c .before .before .before .if1 .left) in
+    let k = lanes-known (a .leg .side) (a .words .now) (a .marks .now) (a .aims .now) (a .spare-words .now) (a .spare-marks .now) (a .spare-aims .now) e in
+    rw (c .before .before .rule-of .ensures) (side-known (a .leg .side) (k .side) .most)
+
+loop-holds : tie.Need-loop-holds Inv-loop μ-loop
+loop-holds c = let a = c .before .before .before .before .before .before .before .before .before .before .before .before .args in
+    let e = sym (c .before .before .before .before .before .are-lanes .ensures) ∙ not-false _ (c .before .before .before .before .if1 .left) in
+    let k = lanes-known (a .leg .side) (a .words .now) (a .marks .now) (a .aims .now) (a .spare-words .now) (a .spare-marks .now) (a .spare-aims .now) e in
+    let z = ruled (a .leg) (k .side) (c .before .before .before .rule-of .ensures) (c .before .before .share .ensures) in
+    (refl, c .moving-groups .ensures, z .0, z .1, rw (c .before .before .before .rule-of .ensures) (k .sized), ranged-start _ _ refl (no-counts 8))
 
 slice-aggregate-run-part : tie.Need-slice-aggregate-run-part Inv-loop μ-loop
 slice-aggregate-run-part c = search needs
@@ -61,17 +68,17 @@ slice-aggregate-run-part c = search needs
 run-part-requires : tie.Need-run-part-requires Inv-loop μ-loop
 run-part-requires c κs = let l = c .before .before .before .before .before .before .before .before .loop in
     let i = l .inv in
-    let k = known (i .1) in
-    let f = part-fits (groupsOf _) (l .g) (l .base) (omega (arith, c .before .before .before .before .before .before .before .loop-test .taken, i .0)) (i .4 .upto) in
-    ((i .1, i .2), (record { long = i .4 .long; room = λ d h. omega (arith, ranged-few (omega (arith, f, k .cells-few)) (i .4) d h) }, (f, ((l .g, i .4 .upto), i .3))))
+    let k = known (i .2) in
+    let f = part-fits (groupsOf (c .before .before .before .before .before .before .before .before .before .before .before .before .rule-of .result .side)) (l .g) (l .base) (moving-few (c .before .before .before .before .before .before .before .before .before .before .before .before .rule-of .result) (i .1) (c .before .before .before .before .before .before .before .loop-test .taken)) (i .5 .upto) in
+    ((i .2, i .3), (record { long = i .5 .long; room = λ d h. omega (arith, ranged-few (omega (arith, f, k .cells-few)) (i .5) d h) }, (f, ((l .g, i .5 .upto), i .4))))
 
 add-base : tie.Need-add-base Inv-loop μ-loop
 add-base c = let l = c .before .before .before .before .before .before .before .before .before .before .before .before .before .before .before .before .before .before .before .before .before .before .loop in
     let i = l .inv in
-    omega (arith, part-fits (groupsOf _) (l .g) (l .base) (omega (arith, c .before .before .before .before .before .before .before .before .before .before .before .before .before .before .before .before .before .before .before .before .before .loop-test .taken, i .0)) (i .4 .upto), known (i .1) .cells-few, i .0)
+    omega (arith, part-fits (groupsOf (c .before .before .before .before .before .before .before .before .before .before .before .before .before .before .before .before .before .before .before .before .before .before .before .before .before .before .rule-of .result .side)) (l .g) (l .base) (moving-few (c .before .before .before .before .before .before .before .before .before .before .before .before .before .before .before .before .before .before .before .before .before .before .before .before .before .before .rule-of .result) (i .1) (c .before .before .before .before .before .before .before .before .before .before .before .before .before .before .before .before .before .before .before .before .before .loop-test .taken)) (i .5 .upto), known (i .2) .cells-few, i .0)
 
 add-g : tie.Need-add-g Inv-loop μ-loop
-add-g c = let i = c .before .before .before .before .before .before .before .before .before .before .before .before .before .before .before .before .before .before .before .before .before .before .loop .inv in omega (arith, c .before .before .before .before .before .before .before .before .before .before .before .before .before .before .before .before .before .before .before .before .before .loop-test .taken, i .0, known (i .1) .groups-few)
+add-g c = let i = c .before .before .before .before .before .before .before .before .before .before .before .before .before .before .before .before .before .before .before .before .before .before .loop .inv in omega (arith, moving-few (c .before .before .before .before .before .before .before .before .before .before .before .before .before .before .before .before .before .before .before .before .before .before .before .before .before .before .rule-of .result) (i .1) (c .before .before .before .before .before .before .before .before .before .before .before .before .before .before .before .before .before .before .before .before .before .loop-test .taken), known (i .2) .groups-few)
 
 loop-less : tie.Need-loop-less Inv-loop μ-loop
 loop-less c = omega (arith, c .before .before .before .before .before .before .before .before .before .before .before .before .before .before .before .before .before .before .before .before .before .loop-test .taken)
@@ -79,46 +86,48 @@ loop-less c = omega (arith, c .before .before .before .before .before .before .b
 loop-again : tie.Need-loop-again Inv-loop μ-loop
 loop-again c = let i = c .before .before .before .before .before .before .before .before .before .before .before .before .before .before .before .before .before .before .before .before .before .before .loop .inv in
     let y = c .before .before .before .before .before .before .before .before .before .before .before .before .before .run-part in
-    (i .0, i .1, i .2, omega (arith, i .3, y .kept), ranged-step (known (i .1) .least) (i .2) (omega (arith, c .before .before .before .before .before .before .before .before .before .before .before .before .before .before .before .before .before .before .before .before .before .loop-test .taken, i .0)) (i .4) refl (omega (arith, i .4 .long, y .kept)) (y .ensures))
+    let z = ranged-step (known (i .2) .least) (i .3) (moving-few (c .before .before .before .before .before .before .before .before .before .before .before .before .before .before .before .before .before .before .before .before .before .before .before .before .before .before .rule-of .result) (i .1) (c .before .before .before .before .before .before .before .before .before .before .before .before .before .before .before .before .before .before .before .before .before .loop-test .taken)) (i .5) refl (omega (arith, i .5 .long, y .kept)) (y .ensures) in
+    (i .0, i .1, i .2, i .3, omega (arith, i .4, y .kept), rw (i .0) z)
 
 same-length : tie.Need-same-length Inv-loop μ-loop
-same-length c = let a = c .before .before .before .before .before .before .before .before .before .before .before .before .before .args in
-    let e = sym (c .before .before .before .before .before .before .are-lanes .ensures) ∙ not-false _ (c .before .before .before .before .before .if1 .left) in
+same-length c = let a = c .before .before .before .before .before .before .before .before .before .before .before .before .before .before .args in
+    let e = sym (c .before .before .before .before .before .before .before .are-lanes .ensures) ∙ not-false _ (c .before .before .before .before .before .before .if1 .left) in
     let k = lanes-known (a .leg .side) (a .words .now) (a .marks .now) (a .aims .now) (a .spare-words .now) (a .spare-marks .now) (a .spare-aims .now) e in
-    c .before .loop .inv .3 .words ∙ sym (rw (c .before .before .before .before .rule-of .ensures) (k .sized .words))
+    c .before .loop .inv .4 .words ∙ sym (rw (c .before .before .before .before .before .rule-of .ensures) (k .sized .words))
 
 same-length-2 : tie.Need-same-length-2 Inv-loop μ-loop
-same-length-2 c = let a = c .before .before .before .before .before .before .before .before .before .before .before .before .before .args in
-    let e = sym (c .before .before .before .before .before .before .are-lanes .ensures) ∙ not-false _ (c .before .before .before .before .before .if1 .left) in
+same-length-2 c = let a = c .before .before .before .before .before .before .before .before .before .before .before .before .before .before .args in
+    let e = sym (c .before .before .before .before .before .before .before .are-lanes .ensures) ∙ not-false _ (c .before .before .before .before .before .before .if1 .left) in
     let k = lanes-known (a .leg .side) (a .words .now) (a .marks .now) (a .aims .now) (a .spare-words .now) (a .spare-marks .now) (a .spare-aims .now) e in
-    c .before .loop .inv .3 .marks ∙ sym (rw (c .before .before .before .before .rule-of .ensures) (k .sized .marks))
+    c .before .loop .inv .4 .marks ∙ sym (rw (c .before .before .before .before .before .rule-of .ensures) (k .sized .marks))
 
 same-length-3 : tie.Need-same-length-3 Inv-loop μ-loop
-same-length-3 c = let a = c .before .before .before .before .before .before .before .before .before .before .before .before .before .args in
-    let e = sym (c .before .before .before .before .before .before .are-lanes .ensures) ∙ not-false _ (c .before .before .before .before .before .if1 .left) in
+same-length-3 c = let a = c .before .before .before .before .before .before .before .before .before .before .before .before .before .before .args in
+    let e = sym (c .before .before .before .before .before .before .before .are-lanes .ensures) ∙ not-false _ (c .before .before .before .before .before .before .if1 .left) in
     let k = lanes-known (a .leg .side) (a .words .now) (a .marks .now) (a .aims .now) (a .spare-words .now) (a .spare-marks .now) (a .spare-aims .now) e in
-    c .before .loop .inv .3 .aims ∙ sym (rw (c .before .before .before .before .rule-of .ensures) (k .sized .aims))
+    c .before .loop .inv .4 .aims ∙ sym (rw (c .before .before .before .before .before .rule-of .ensures) (k .sized .aims))
 
 same-length-4 : tie.Need-same-length-4 Inv-loop μ-loop
-same-length-4 c = let a = c .before .before .before .before .before .before .before .before .before .before .before .before .before .args in
-    let e = sym (c .before .before .before .before .before .before .are-lanes .ensures) ∙ not-false _ (c .before .before .before .before .before .if1 .left) in
+same-length-4 c = let a = c .before .before .before .before .before .before .before .before .before .before .before .before .before .before .args in
+    let e = sym (c .before .before .before .before .before .before .before .are-lanes .ensures) ∙ not-false _ (c .before .before .before .before .before .before .if1 .left) in
     let k = lanes-known (a .leg .side) (a .words .now) (a .marks .now) (a .aims .now) (a .spare-words .now) (a .spare-marks .now) (a .spare-aims .now) e in
-    c .before .loop .inv .3 .words2 ∙ sym (rw (c .before .before .before .before .rule-of .ensures) (k .sized .words2))
+    c .before .loop .inv .4 .words2 ∙ sym (rw (c .before .before .before .before .before .rule-of .ensures) (k .sized .words2))
 
 same-length-5 : tie.Need-same-length-5 Inv-loop μ-loop
-same-length-5 c = let a = c .before .before .before .before .before .before .before .before .before .before .before .before .before .args in
-    let e = sym (c .before .before .before .before .before .before .are-lanes .ensures) ∙ not-false _ (c .before .before .before .before .before .if1 .left) in
+same-length-5 c = let a = c .before .before .before .before .before .before .before .before .before .before .before .before .before .before .args in
+    let e = sym (c .before .before .before .before .before .before .before .are-lanes .ensures) ∙ not-false _ (c .before .before .before .before .before .before .if1 .left) in
     let k = lanes-known (a .leg .side) (a .words .now) (a .marks .now) (a .aims .now) (a .spare-words .now) (a .spare-marks .now) (a .spare-aims .now) e in
-    c .before .loop .inv .3 .marks2 ∙ sym (rw (c .before .before .before .before .rule-of .ensures) (k .sized .marks2))
+    c .before .loop .inv .4 .marks2 ∙ sym (rw (c .before .before .before .before .before .rule-of .ensures) (k .sized .marks2))
 
 same-length-6 : tie.Need-same-length-6 Inv-loop μ-loop
-same-length-6 c = let a = c .before .before .before .before .before .before .before .before .before .before .before .before .before .args in
-    let e = sym (c .before .before .before .before .before .before .are-lanes .ensures) ∙ not-false _ (c .before .before .before .before .before .if1 .left) in
+same-length-6 c = let a = c .before .before .before .before .before .before .before .before .before .before .before .before .before .before .args in
+    let e = sym (c .before .before .before .before .before .before .before .are-lanes .ensures) ∙ not-false _ (c .before .before .before .before .before .before .if1 .left) in
     let k = lanes-known (a .leg .side) (a .words .now) (a .marks .now) (a .aims .now) (a .spare-words .now) (a .spare-marks .now) (a .spare-aims .now) e in
-    c .before .loop .inv .3 .aims2 ∙ sym (rw (c .before .before .before .before .rule-of .ensures) (k .sized .aims2))
+    c .before .loop .inv .4 .aims2 ∙ sym (rw (c .before .before .before .before .before .rule-of .ensures) (k .sized .aims2))
 
 returns-2 : tie.Need-returns-2 Inv-loop μ-loop
-returns-2 c = ranged-end (sym (c .before .before .before .before .before .before .are-lanes .ensures) ∙ not-false _ (c .before .before .before .before .before .if1 .left)) (c .before .before .before .before .rule-of .ensures) (omega (arith, c .loop-test .left, c .before .loop .inv .0)) (c .before .loop .inv .4)
+returns-2 c = let i = c .before .loop .inv in
+    ranged-end (sym (c .before .before .before .before .before .before .before .are-lanes .ensures) ∙ not-false _ (c .before .before .before .before .before .before .if1 .left)) (c .before .before .before .before .before .rule-of .ensures) (known (i .2) .least) (i .2 .stride) (i .1) (c .loop-test .left) (i .5)
 
 pub run-all-spec : {M : Type 1} → statement M
 run-all-spec =
@@ -130,7 +139,8 @@ run-all-spec =
     returns
     rule-of-requires
     share-requires
-    mul-groups
+    mul-size
+    moving-groups-requires
     loop-holds
     slice-aggregate-run-part
     run-part-requires

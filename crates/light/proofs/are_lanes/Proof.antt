@@ -1,9 +1,8 @@
 use mathlib.Core.Path.{sym, _∙_}
 use borrow.Author.Tests.{not-true, not-false}
 use borrow.Author.Needs.{needs}
-use Rattle.slots.proofs.are_lanes.Statement.{statement}
-use Rattle.slots.proofs.are_lanes.Tie as tie
-use Rattle.light.proofs.are_slots.Reads as are-slots-reads
+use Rattle.light.proofs.are_lanes.Statement.{statement}
+use Rattle.light.proofs.are_lanes.Tie as tie
 
 are-slots-requires : tie.Need-are-slots-requires
 are-slots-requires c κs = search needs

@@ -1,0 +1,55 @@
+-- Swaps of all six lanes of a board: the words, marks and aims of its front slots, and those of its spare slots.
+use Prim.Native.Nat.{ℕ, zero, suc, _+_}
+use mathlib.Core.Path.{_≡_}
+use mathlib.Core.Bool.{Bool, cond, _&&_}
+use mathlib.Core.List.{List}
+use lib.Dec.{eqb}
+use lib.ListN.{length}
+use Rattle.laws.specs.Lent.{Lent, old, new}
+use Rattle.light.specs.Lane.{isBoard, swappedLane}
+use Rattle.light.specs.Counts.{leavingOf}
+
+-- three lanes of these lengths, and six, are those of a board
+abbrev pub areSlots : ℕ → ℕ → ℕ → ℕ → Bool
+areSlots s a b c = isBoard s a && (isBoard s b && isBoard s c)
+
+abbrev pub areLanes : ℕ → ℕ → ℕ → ℕ → ℕ → ℕ → ℕ → Bool
+areLanes s a b c d e f = areSlots s a b c && areSlots s d e f
+
+abbrev pub haveBoard : ℕ → Lent → Lent → Lent → Lent → Lent → Lent → Bool
+haveBoard s w m a w₂ m₂ a₂ =
+    areLanes s (length (old w)) (length (old m)) (length (old a)) (length (old w₂)) (length (old m₂)) (length (old a₂))
+
+-- the lanes of the front slots, or of the spare ones, at one moment
+pub record Slots : Type 0 where
+  pub words : List ℕ
+  pub marks : List ℕ
+  pub aims : List ℕ
+
+abbrev pub slots : List ℕ → List ℕ → List ℕ → Slots
+slots w m a = record { words = w; marks = m; aims = a }
+
+-- they are lanes of a board
+abbrev pub onBoard : ℕ → Slots → Bool
+onBoard s t = areSlots s (length (t .words)) (length (t .marks)) (length (t .aims))
+
+-- one thing done to every lane
+abbrev pub each : (List ℕ → List ℕ) → Slots → Slots
+each f t = slots (f (t .words)) (f (t .marks)) (f (t .aims))
+
+-- a lane after n swaps
+unfoldable pub swappedBy : ℕ → ℕ → List ℕ → List ℕ
+swappedBy s zero l = l
+swappedBy s (suc n) l = swappedLane s (swappedBy s n l)
+
+-- the front slots t and the spare slots t₂ after n swaps, of which each takes r records to another cell
+pub record Swapped (s n : ℕ) (t t₂ u u₂ : Slots) (r : ℕ) : Type 0 where
+  pub front : u ≡ each (swappedBy s n) t
+  pub spare : u₂ ≡ each (swappedBy s n) t₂
+  pub count : r ≡ cond (eqb n 0) 0 (leavingOf s (t .marks) + leavingOf s (t₂ .marks))
+
+-- n swaps of lent lanes; none, where they are not a board's
+abbrev pub SwappedLanes : ℕ → ℕ → Lent → Lent → Lent → Lent → Lent → Lent → ℕ → Type 0
+SwappedLanes s n w m a w₂ m₂ a₂ r =
+    Swapped s (cond (haveBoard s w m a w₂ m₂ a₂) n 0)
+    (slots (old w) (old m) (old a)) (slots (old w₂) (old m₂) (old a₂)) (slots (new w) (new m) (new a)) (slots (new w₂) (new m₂) (new a₂)) r
