@@ -190,15 +190,18 @@ module _ (t : Rule) (none : t .made ≡ 0) where
   pub still-none : (U : ℕ → Cell) (p : ℕ) → ranLine t U p ≡ U p
   still-none U p = rw (all-stay (λ q. U q .front) (t .side), all-stay (λ q. U q .spare) (t .side))
 
-  ran-none : (T : ℕ → Cell) (i : ℕ) → 0 < t .side → 0 < t .stride → ranOn t T i ≡ T i
+  pub ran-nothing : (T : ℕ → Cell) (i : ℕ) → 0 < t .side → 0 < t .stride → ranOn t T i ≡ T i
   unfolding ranOn
-  ran-none T i pos stride =
+  ran-nothing T i pos stride =
       still-none (λ q. T (lineCell t i q)) (spotOf t i)
       ∙ ap T (omega (arith, mul-le-mul-right {m = spotOf t i} {n = i / t .stride} (t .stride) (mod-le (i / t .stride) (t .side)), div-add-mod' i (t .stride)))
 
   went-none : (d p : ℕ) (c : Cell) → wentFrom t d p c ≡ 0
   unfolding wentOf
   went-none d p c = rw (stays-there p (c .front), stays-there p (c .spare))
+
+  pub went-nothing : (d : ℕ) (T : ℕ → Cell) → wentIn t d T ≡ 0
+  went-nothing d T = sum-zero (λ i. wentFrom t d (spotOf t i) (T i)) (cells (t .side)) (λ i w. went-none d (spotOf t i) (T i))
 
 -- the groups that have something to do are among all
 pub moving-few : (t : Rule) {g n : ℕ} → n ≡ movingGroups t → g < n → g < groups (t .side)
@@ -220,7 +223,7 @@ ranged-end {lanes} {t} {u} {g} {n} {base} {T} {C} {counts} e f pos stride k h z 
         z .upto ∙ ap (λ (n : ℕ). n * groups (t .side)) (omega (arith, z .within, m))
 
     made : (b : Bool) → eqb (t .made) 0 ≡ b → (i : ℕ) → i < cells (t .side) → C i ≡ ranOn t T i
-    made true o i v = z .made i v ∙ same (ltb i base) (ran-none t (eqb-true (t .made) 0 o) T i pos stride)
+    made true o i v = z .made i v ∙ same (ltb i base) (ran-nothing t (eqb-true (t .made) 0 o) T i pos stride)
       where
         same : (b : Bool) → ranOn t T i ≡ T i → cond b (ranOn t T i) (T i) ≡ ranOn t T i
         same true w = refl
@@ -230,5 +233,5 @@ ranged-end {lanes} {t} {u} {g} {n} {base} {T} {C} {counts} e f pos stride k h z 
     went : (b : Bool) → eqb (t .made) 0 ≡ b → (d : ℕ) → d < 8 → getD counts d 0 ≡ wentIn t d T
     went true o d v =
         z .count d v ∙ sum-zero (λ i. wentFrom t d (spotOf t i) (T i)) base (λ i w. went-none t (eqb-true (t .made) 0 o) d (spotOf t i) (T i))
-        ∙ sym (sum-zero (λ i. wentFrom t d (spotOf t i) (T i)) (cells (t .side)) (λ i w. went-none t (eqb-true (t .made) 0 o) d (spotOf t i) (T i)))
+        ∙ sym (went-nothing t (eqb-true (t .made) 0 o) d T)
     went false o d v = z .count d v ∙ ap (λ (n : ℕ). sum n (λ i. wentFrom t d (spotOf t i) (T i))) (all o)

@@ -22,7 +22,7 @@ use Rattle.mesh.proofs.Groups.{part-fits}
 
 -- the digits of an aim are those of a number below 4,096
 module _ {s : ℕ} (k : Side s) where
-  stride-pos : (w : Way) → 0 < strideOf s w
+  pub stride-pos : (w : Way) → 0 < strideOf s w
   stride-pos Right = omega arith
   stride-pos Left = omega arith
   stride-pos Up = k .least

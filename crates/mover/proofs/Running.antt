@@ -1,19 +1,23 @@
 -- A list of runs as it is made: what is left of the list leads from the cells and the log as they are to those of the whole.
 use Prim.Native.Nat.{ℕ, zero, suc, _+_, _-_, _*_, _≤_, _<_, min}
-use mathlib.Core.Path.{_≡_, refl, sym, ap, ap₂, _∙_}
+use mathlib.Core.Path.{_≡_, refl, sym, ap, ap₂, subst, _∙_}
 use mathlib.Core.Bool.{Bool, true, false, cond}
 use mathlib.Core.List.{List, [], _∷_, _++_}
 use native.Mathlib.Nat.{sub-zero}
 use native.Mathlib.Numerals.{add-one}
 use native.Mathlib.Omega.{arith}
+use borrow.Author.Tests.{ne-eqb}
+use lib.Dec.{eqb}
 use lib.ListN.{length, getD, set, drop, drop-of-length-le}
 use lib.Seq.{sets, drop-cons}
 use Rattle.laws.specs.Sums.{sum}
 use Rattle.laws.specs.Tables.{entries}
 use Rattle.laws.proofs.Sums.{sum-cong}
+use Rattle.laws.proofs.Totals.{sum-zero}
 use Rattle.laws.proofs.Tables.{length-entries, entry-at, entries-cong}
 use Rattle.laws.proofs.Stores.{Storing, storing-start, storing-next, storing-all, sets-append}
 use Rattle.array.specs.declared.moves.Way.{Way}
+use Rattle.array.specs.declared.moves.Way.the-variants.{Right}
 use Rattle.array.specs.declared.moves.Move.{Move}
 use Rattle.array.specs.declared.moves.Move.the-variants.{Swap, Electronic}
 use Rattle.array.specs.Cells.{isSide, cells, partner}
@@ -25,11 +29,13 @@ use Rattle.slots.specs.declared.Cell.{Cell}
 use Rattle.mesh.specs.declared.Leg.{Leg}
 use Rattle.mesh.specs.Lines.{goesAt, goesIn}
 use Rattle.mesh.specs.Mesh.{ruleOf, spotOf, ranOn, goneIn, wentIn, RanLanes}
-use Rattle.mesh.proofs.Legs.{ran-same}
+use Rattle.mesh.proofs.Groups.{ran-nothing as leg-nothing, went-nothing}
+use Rattle.mesh.proofs.Legs.{stride-pos, ran-same}
 use Rattle.mesh.proofs.Counting.{gone-by-went, gone-made, gone-few, went-few}
-use Rattle.mover.specs.Runs.{legOf, swapped, ranBy, goneBy, madeOf, after, movedLog, Ran}
-use Rattle.mover.specs.Inside.{movers, Few, RanRun, RanLeg}
-use Rattle.mover.proofs.Swapping.{leaving, leaving-same, swaps-same}
+use Rattle.mover.specs.declared.Tally.{Tally}
+use Rattle.mover.specs.Runs.{isLate, legOf, swapped, ranBy, goneBy, madeOf, after, movedLog, Ran}
+use Rattle.mover.specs.Inside.{legIn, movers, countOf, FewWent, leaving, Made, RanRun}
+use Rattle.mover.proofs.Swapping.{leaving-few, leaving-same, leaving-swaps, swaps-same}
 
 -- counts put into the log, from a place on
 pub record Logging (f : ℕ → ℕ) (n from j : ℕ) (old log : List ℕ) : Type 0 where
@@ -64,7 +70,7 @@ few-cond : (b : Bool) (n : ℕ) → cond b n 0 ≤ n
 few-cond true n = omega arith
 few-cond false n = omega arith
 
-pub adding-next : {late : Bool} {times : ℕ} (went : List ℕ) {j d count x : ℕ} {b : Bool} → d < 8 → Few went → b ≡ goesIn late times j d → x ≡ cond b (getD went d 0) 0
+pub adding-next : {late : Bool} {times : ℕ} (went : List ℕ) {j d count x : ℕ} {b : Bool} → d < 8 → FewWent went → b ≡ goesIn late times j d → x ≡ cond b (getD went d 0) 0
     → Adding late times went j d count → Adding late times went j (d + 1) (count + x)
 adding-next went {j} {d} {count} {x} {b} h f e g z =
     rw add-one
@@ -79,34 +85,65 @@ adding-end {late} {times} {went} {j} {d} h z =
     let e : d ≡ 8 = omega (arith, z .upto) in
     z .sum-is ∙ ap (λ (n : ℕ). sum n (λ e. cond (goesIn late times j e) (getD went e 0) 0)) e
 
--- a run one way, by what the mesh says of it
-module _ (l : Leg) {lanes : Bool} {T T′ : ℕ → Cell} {went : List ℕ} (side : isSide (l .side) ≡ true) (within : l .made ≤ l .times) (on : lanes ≡ true) (r : RanLanes lanes (ruleOf l) T T′ went) where
-  pub movers-are : (j : ℕ) → j < l .made → movers (l .late) (l .times) went j ≡ goneIn (ruleOf l) j T
-  movers-are j h =
-      sum-cong 8 (λ d u. ap (λ (n : ℕ). cond (goesIn (l .late) (l .times) j d) n 0) (r .went on d u))
-      ∙ sym (gone-by-went l j T side h within)
-
-  pub movers-few : (j : ℕ) → j < l .made → movers (l .late) (l .times) went j ≤ 65535
-  movers-few j h = omega (arith, movers-are j h, gone-few l j T, side-known (l .side) side .cells-few)
-
-  pub few-went : Few went
-  few-went = record { few = λ d h. omega (arith, r .went on d h, went-few l d T, side-known (l .side) side .cells-few) }
-
-  pub ran-leg : {from : ℕ} {moved moved′ : List ℕ} → moved′ ≡ sets moved from (entries (movers (l .late) (l .times) went) 0 (l .made)) → RanLeg l from T T′ moved moved′
-  ran-leg {from} {moved} e = record {
-    made = r .made on;
-    log = e ∙ ap (sets moved from) (entries-cong (l .made) movers-are);
+-- a run by what the mesh and the light say of it
+module _ {l : Leg} {n : ℕ} {lanes : Bool} {T C T′ : ℕ → Cell} {went : List ℕ} {swaps : ℕ} (side : isSide (l .side) ≡ true) (on : lanes ≡ true) (r : RanLanes lanes (ruleOf l) went T C)
+    (q : (i : ℕ) → i < cells (l .side) → T′ i ≡ swapped (l .side) n C i) (k : swaps ≡ cond (eqb n 0) 0 (leaving (l .side) C)) where
+  pub made-so : Made l n (record { went = went; swapped = swaps }) T T′
+  made-so = record {
+    made = λ i h. q i h ∙ swaps-same (l .side) (side-known (l .side) side .least) n (r .made on) i h;
+    went = r .went on;
+    swaps = k ∙ ap (cond (eqb n 0) 0) (leaving-same (l .side) (r .made on));
   }
 
-pub run-leg : (trip : Trip) (s swaps times m : ℕ) {w : Way} {x : Move} {l : Leg} {from : ℕ} {T T′ : ℕ → Cell} {moved moved′ : List ℕ} → x ≡ Electronic w → l ≡ legOf trip s swaps w times m → RanLeg l from T T′ moved moved′
-    → RanRun trip s swaps x times m from T T′ moved moved′
-run-leg trip s swaps times m {w} {x} {l} {from} {T} {T′} {moved} {moved′} e f z =
-    rw e
-    (let y : RanLeg (legOf trip s swaps w times m) from T T′ moved moved′ = rw f at z in
-    record {
-      made = y .made;
-      log = y .log ∙ ap (sets moved from) (entries-cong m (λ j h. gone-made (legOf trip s swaps w times m) times j T));
-    })
+pub went-some : {l : Leg} {n : ℕ} {t : Tally} {T T′ : ℕ → Cell} → isSide (l .side) ≡ true → Made l n t T T′ → FewWent (t .went)
+went-some {l} {T = T} side z = record { few = λ d h. omega (arith, z .went d h, went-few l d T, side-known (l .side) side .cells-few) }
+
+-- a run of so many moves, of whatever kind
+module _ (trip : Trip) (s : ℕ) (side : isSide s ≡ true) (swaps times m : ℕ) (within : m ≤ times) (T : ℕ → Cell) where
+  pos : 0 < s
+  pos = side-known s side .least
+
+  -- the leg of a run of swaps, which does nothing
+  abbrev idle : Leg
+  idle = legOf trip s swaps Right times 0
+
+  none : ruleOf idle .made ≡ 0
+  none = omega arith
+
+  idle-ran : (i : ℕ) → ranOn (ruleOf idle) T i ≡ T i
+  idle-ran i = leg-nothing (ruleOf idle) none T i pos (stride-pos (side-known s side) Right)
+
+  pub counts-are : (x : Move) {t : Tally} {T′ : ℕ → Cell} → Made (legIn trip s swaps x times m) (swapsIn x m) t T T′ → (j : ℕ) → j < m → countOf (isLate trip) times t j ≡ goneBy trip s swaps x times j T
+  counts-are (Electronic w) {t} z j h =
+      let l = legOf trip s swaps w times m in
+      let e : movers (isLate trip) times (t .went) j ≡ goneIn (ruleOf l) j T =
+      sum-cong 8 (λ d u. ap (λ (n : ℕ). cond (goesIn (isLate trip) times j d) n 0) (z .went d u)) ∙ sym (gone-by-went l j T side h within) in
+      omega (arith, e, z .swaps, gone-made l times j T)
+  counts-are Swap {t} z j h =
+      let e : movers (isLate trip) times (t .went) j ≡ 0 =
+      sum-zero (λ d. cond (goesIn (isLate trip) times j d) (getD (t .went) d 0) 0) 8 (λ d u. few-zero (goesIn (isLate trip) times j d) (z .went d u ∙ went-nothing (ruleOf idle) none d T)) in
+      let f : t .swapped ≡ leaving s T = z .swaps ∙ rw (ne-eqb m 0 (λ u. omega arith)) (leaving-same s (λ i u. idle-ran i)) in
+      omega (arith, e, f, leaving-swaps s side j T)
+    where
+      few-zero : (b : Bool) {n : ℕ} → n ≡ 0 → cond b n 0 ≡ 0
+      few-zero true e = e
+      few-zero false e = refl
+
+  gone-most : (x : Move) (j : ℕ) → goneBy trip s swaps x times j T ≤ 8192
+  gone-most Swap j = leaving-few s side (swapped s j T)
+  gone-most (Electronic w) j = omega (arith, gone-few (legOf trip s swaps w times times) j T, side-known s side .cells-few)
+
+  pub counts-few : (x : Move) {t : Tally} {T′ : ℕ → Cell} → Made (legIn trip s swaps x times m) (swapsIn x m) t T T′ → (j : ℕ) → j < m → countOf (isLate trip) times t j ≤ 65535
+  counts-few x {t} z j h = omega (arith, counts-are x z j h, gone-most x j)
+
+  made-are : (x : Move) {t : Tally} {T′ : ℕ → Cell} → Made (legIn trip s swaps x times m) (swapsIn x m) t T T′ → (i : ℕ) → i < cells s → T′ i ≡ ranBy trip s swaps x times m T i
+  unfolding swapped
+  made-are (Electronic w) z i h = z .made i h
+  made-are Swap z i h = z .made i h ∙ swaps-same s pos m (λ i u. idle-ran i) i h
+
+  pub run-made : (x : Move) {t : Tally} {T′ : ℕ → Cell} {from : ℕ} {moved moved′ : List ℕ} → Made (legIn trip s swaps x times m) (swapsIn x m) t T T′
+      → moved′ ≡ sets moved from (entries (countOf (isLate trip) times t) 0 m) → RanRun trip s swaps x times m from T T′ moved moved′
+  run-made x {t} {from = from} {moved} z e = record { made = made-are x z; log = e ∙ ap (sets moved from) (entries-cong m (counts-are x z)) }
 
 gone-cong : (l : Leg) (j : ℕ) {T U : ℕ → Cell} → ((i : ℕ) → i < cells (l .side) → T i ≡ U i) → goneIn (ruleOf l) j T ≡ goneIn (ruleOf l) j U
 gone-cong l j e =
@@ -187,24 +224,6 @@ ran-nothing l = record {
   log = rw l;
 }
 
--- so many swaps as they are made
-pub record Swapping (s m from j : ℕ) (T C : ℕ → Cell) (moved moved′ : List ℕ) : Type 0 where
-  pub made : (i : ℕ) → i < cells s → C i ≡ swapped s j T i
-  pub logged : Logging (λ k. leaving s (swapped s k T)) m from j moved moved′
-
-pub swapping-start : (s m from : ℕ) (T : ℕ → Cell) (moved : List ℕ) → Swapping s m from 0 T T moved moved
-unfolding swapped
-swapping-start s m from T moved = record { made = λ i h. refl; logged = logging-start (λ k. leaving s (swapped s k T)) m from moved }
-
-pub swapping-next : {s m from j r : ℕ} {T C C′ : ℕ → Cell} {moved now₁ : List ℕ} → 0 < s → j < m → ((i : ℕ) → i < cells s → C′ i ≡ C (partner s i)) → r ≡ leaving s C
-    → Swapping s m from j T C moved now₁ → Swapping s m from (j + 1) T C′ moved (set now₁ (from + j) r)
-unfolding swapped
-swapping-next {s} {m} {from} {j} {r} {T} pos h e f z = record {
-  made = λ i u. rw add-one (e i u ∙ z .made (partner s i) (partner-in pos i u));
-  logged = logging-next (λ k. leaving s (swapped s k T)) h (f ∙ leaving-same s (z .made)) (z .logged);
-}
-
-pub swapping-end : (trip : Trip) (swaps times : ℕ) {s m from j : ℕ} {T C : ℕ → Cell} {moved moved′ : List ℕ} → m ≤ j → Swapping s m from j T C moved moved′ → RanRun trip s swaps Swap times m from T C moved moved′
-swapping-end trip swaps times {s} {m} {from} {j} {T} h z =
-    let e : j ≡ m = omega (arith, z .logged .upto) in
-    record { made = λ i u. z .made i u ∙ ap (λ (k : ℕ). swapped s k T i) e; log = logging-end (λ k. leaving s (swapped s k T)) h (z .logged) }
+-- a run that was made, by the names that the code has
+pub made-leg : {l l′ : Leg} {n n′ : ℕ} {t : Tally} {T T′ : ℕ → Cell} → l ≡ l′ → n ≡ n′ → Made l n t T T′ → Made l′ n′ t T T′
+made-leg {l} {l′} {n} {n′} {t} {T} {T′} e f z = subst (λ (k : Leg). Made k n′ t T T′) e (subst (λ (k : ℕ). Made l k t T T′) f z)

@@ -1,30 +1,32 @@
--- A swap of six lanes by what it does to their cells: every cell holds what its partner held.
+-- Swaps of six lanes by what they do to their cells: every cell holds what its partner held.
 use Prim.Native.Nat.{ℕ, zero, suc, _+_, _*_, _≤_, _<_}
-use mathlib.Core.Path.{_≡_, refl, sym, ap, _∙_}
+use mathlib.Core.Path.{_≡_, refl, sym, ap, ap₂, _∙_}
+use mathlib.Core.Logic.{⊎-elim}
 use mathlib.Core.Bool.{Bool, true, false, cond}
 use mathlib.Core.List.{List}
 use native.Mathlib.Omega.{arith}
-use borrow.Author.Tests.{eq-eqb}
+use borrow.Author.Tests.{eq-eqb, ne-eqb}
 use lib.Dec.{eqb}
 use lib.ListN.{length, getD}
 use Rattle.laws.specs.Sums.{sum}
+use Rattle.laws.proofs.Deciding.{same?}
 use Rattle.laws.proofs.Sums.{sum-cong}
-use Rattle.laws.proofs.Totals.{sum-few}
-use Rattle.laws.proofs.Tables.{entry-at}
+use Rattle.laws.proofs.Totals.{sum-few, sum-plus}
+use Rattle.laws.proofs.Tables.{entry-at, length-entries}
+use Rattle.laws.proofs.Trading.{Paired}
 use Rattle.array.specs.Cells.{isSide, cells, partner}
-use Rattle.array.proofs.Board.{Side, side-known, partner-in}
+use Rattle.array.proofs.Board.{side-known, partner-in}
 use Rattle.light.specs.Lane.{isBoard, swappedLane}
-use Rattle.light.specs.Lanes.{Table, table, onBoard, each, Swapped}
+use Rattle.light.specs.Counts.{leavesOf, leavingOf}
+use Rattle.light.specs.Lanes.{Slots, slots, each, swappedBy, Swapped}
+use Rattle.light.proofs.Leaving.{sum-paired-off}
+use Rattle.light.proofs.Turning.{paired}
 use Rattle.slots.specs.declared.Rec.{Rec}
 use Rattle.slots.specs.declared.Cell.{Cell}
-use Rattle.slots.specs.Cells.{Sized, cellAt, countOf, marksIn}
-use Rattle.slots.proofs.Stored.{cell-ext}
-use Rattle.slots.proofs.Boards.{lanes-are}
+use Rattle.slots.specs.Cells.{Sized, recordIn, cellAt, countOf, marksIn}
+use Rattle.slots.proofs.Stored.{rec-ext}
 use Rattle.mover.specs.Runs.{swapped}
-
--- how many records a swap takes to another cell
-abbrev pub leaving : ℕ → (ℕ → Cell) → ℕ
-leaving s T = sum (cells s) (λ i. cond (eqb (partner s i) i) 0 (marksIn (T i)))
+use Rattle.mover.specs.Inside.{leaving}
 
 one-most : (x : Rec) → countOf x ≤ 1
 one-most x = go (eqb (x .mark) 0)
@@ -50,26 +52,68 @@ swaps-same s pos zero e i h = e i h
 swaps-same s pos (suc m) e i h = swaps-same s pos m e (partner s i) (partner-in pos i h)
 
 module _ (s : ℕ) (side : isSide s ≡ true) where
-  swapped-at : (l : List ℕ) → length l ≡ cells s → (i : ℕ) → i < cells s → getD (swappedLane s l) i 0 ≡ getD l (partner s i) 0
-  swapped-at l e i h =
-      let b : isBoard s (length l) ≡ true = rw (side, eq-eqb (length l) (cells s) e) in
-      rw b (entry-at (λ j. getD l (partner s j) 0) (cells s) i 0 h)
+  pairs : Paired (cells s) (partner s)
+  pairs = paired s (side-known s side)
 
-  module _ {w m a w₂ m₂ a₂ w′ m′ a′ w₂′ m₂′ a₂′ : List ℕ} {r : ℕ} (z : Sized (cells s) w m a w₂ m₂ a₂) (q : Swapped s (table w m a w₂ m₂ a₂) (table w′ m′ a′ w₂′ m₂′ a₂′) r) where
-    on : onBoard s (table w m a w₂ m₂ a₂) ≡ true
-    on = lanes-are s side z
+  -- each swap takes as many records to another cell as the one before it
+  leaving-swapped : (T : ℕ → Cell) → leaving s (λ i. T (partner s i)) ≡ leaving s T
+  leaving-swapped T = sum-cong (cells s) moved-on ∙ sum-paired-off pairs (λ i. cond (eqb (partner s i) i) 0 (marksIn (T i)))
+    where
+      moved-on : (i : ℕ) → i < cells s → cond (eqb (partner s i) i) 0 (marksIn (T (partner s i))) ≡ cond (eqb (partner s (partner s i)) (partner s i)) 0 (marksIn (T (partner s i)))
+      moved-on i h =
+          rw (pairs .twice i h)
+          (⊎-elim (λ e. rw (eq-eqb (partner s i) i e, eq-eqb i (partner s i) (sym e))) (λ d. rw (ne-eqb (partner s i) i d, ne-eqb i (partner s i) (λ e. d (sym e)))) (same? (partner s i) i))
 
-    pub cells-swap : (i : ℕ) → i < cells s → cellAt w′ m′ a′ w₂′ m₂′ a₂′ i ≡ cellAt w m a w₂ m₂ a₂ (partner s i)
-    cells-swap i h =
-        let f : table w′ m′ a′ w₂′ m₂′ a₂′ ≡ each (swappedLane s) (table w m a w₂ m₂ a₂) = rw on at (q .lanes) in
-        ap (λ (t : Table). cellAt (t .words) (t .marks) (t .aims) (t .words2) (t .marks2) (t .aims2) i) f
-        ∙ cell-ext
-        (swapped-at w (z .words) i h)
-        (swapped-at m (z .marks) i h)
-        (swapped-at a (z .aims) i h)
-        (swapped-at w₂ (z .words2) i h)
-        (swapped-at m₂ (z .marks2) i h)
-        (swapped-at a₂ (z .aims2) i h)
+  pub leaving-swaps : (m : ℕ) (T : ℕ → Cell) → leaving s (swapped s m T) ≡ leaving s T
+  unfolding swapped
+  leaving-swaps zero T = refl
+  leaving-swaps (suc m) T = leaving-swapped (swapped s m T) ∙ leaving-swaps m T
 
-    pub swap-count : r ≡ leaving s (cellAt w m a w₂ m₂ a₂)
-    swap-count = rw on at (q .count)
+  -- a lane after swaps, entry by entry
+  lane-long : (n : ℕ) (l : List ℕ) → length l ≡ cells s → length (swappedBy s n l) ≡ cells s
+  unfolding swappedBy
+  lane-long zero l e = e
+  lane-long (suc n) l e =
+      let b : isBoard s (length (swappedBy s n l)) ≡ true = rw (side, eq-eqb (length (swappedBy s n l)) (cells s) (lane-long n l e)) in
+      rw b (length-entries (λ i. getD (swappedBy s n l) (partner s i) 0) 0 (cells s))
+
+  lane-next : (n : ℕ) (l : List ℕ) → length l ≡ cells s → (i : ℕ) → i < cells s → getD (swappedBy s (suc n) l) i 0 ≡ getD (swappedBy s n l) (partner s i) 0
+  unfolding swappedBy
+  lane-next n l e i h =
+      let b : isBoard s (length (swappedBy s n l)) ≡ true = rw (side, eq-eqb (length (swappedBy s n l)) (cells s) (lane-long n l e)) in
+      rw b (entry-at (λ j. getD (swappedBy s n l) (partner s j) 0) (cells s) i 0 h)
+
+  -- a slot after swaps
+  slot-swapped : (n : ℕ) (w m a : List ℕ) → length w ≡ cells s → length m ≡ cells s → length a ≡ cells s → (i : ℕ) → i < cells s
+      → recordIn (swappedBy s (suc n) w) (swappedBy s (suc n) m) (swappedBy s (suc n) a) i ≡ recordIn (swappedBy s n w) (swappedBy s n m) (swappedBy s n a) (partner s i)
+  slot-swapped n w m a e f g i h = rec-ext (lane-next n w e i h) (lane-next n m f i h) (lane-next n a g i h)
+
+  module _ {w m a w₂ m₂ a₂ : List ℕ} (z : Sized (cells s) w m a w₂ m₂ a₂) where
+    cells-swaps : (n i : ℕ) → i < cells s
+        → cellAt (swappedBy s n w) (swappedBy s n m) (swappedBy s n a) (swappedBy s n w₂) (swappedBy s n m₂) (swappedBy s n a₂) i ≡ swapped s n (cellAt w m a w₂ m₂ a₂) i
+    unfolding swappedBy swapped
+    cells-swaps zero i h = refl
+    cells-swaps (suc n) i h =
+        ap₂ (λ (x y : Rec). record { front = x; spare = y })
+        (slot-swapped n w m a (z .words) (z .marks) (z .aims) i h)
+        (slot-swapped n w₂ m₂ a₂ (z .words2) (z .marks2) (z .aims2) i h)
+        ∙ cells-swaps n (partner s i) (partner-in (side-known s side .least) i h)
+
+    module _ {w′ m′ a′ w₂′ m₂′ a₂′ : List ℕ} (n : ℕ) {b : Bool} {r : ℕ} (on : b ≡ true) (q : Swapped s (cond b n 0) (slots w m a) (slots w₂ m₂ a₂) (slots w′ m′ a′) (slots w₂′ m₂′ a₂′) r) where
+      q′ : Swapped s n (slots w m a) (slots w₂ m₂ a₂) (slots w′ m′ a′) (slots w₂′ m₂′ a₂′) r
+      q′ = rw on at q
+
+      pub cells-swapped : (i : ℕ) → i < cells s → cellAt w′ m′ a′ w₂′ m₂′ a₂′ i ≡ swapped s n (cellAt w m a w₂ m₂ a₂) i
+      cells-swapped i h =
+          ap₂ (λ (t u : Slots). cellAt (t .words) (t .marks) (t .aims) (u .words) (u .marks) (u .aims) i) (q′ .front) (q′ .spare)
+          ∙ cells-swaps n i h
+
+      pub swap-count : r ≡ cond (eqb n 0) 0 (leaving s (cellAt w m a w₂ m₂ a₂))
+      swap-count =
+          q′ .count
+          ∙ ap (λ (k : ℕ). cond (eqb n 0) 0 k)
+          (sym (sum-plus (λ i. leavesOf (partner s i) i (getD m i 0)) (λ i. leavesOf (partner s i) i (getD m₂ i 0)) (cells s)) ∙ sum-cong (cells s) (λ i h. both (eqb (partner s i) i) _ _))
+        where
+          both : (b : Bool) (x y : ℕ) → cond b 0 x + cond b 0 y ≡ cond b 0 (x + y)
+          both true x y = refl
+          both false x y = refl

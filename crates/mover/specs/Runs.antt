@@ -5,6 +5,7 @@ use mathlib.Core.Bool.{Bool, true, false, cond}
 use mathlib.Core.List.{List, [], _∷_, _++_}
 use lib.Dec.{eqb}
 use lib.Seq.{sets}
+use Rattle.laws.specs.Lent.{Lent, old, new}
 use Rattle.laws.specs.Sums.{sum}
 use Rattle.laws.specs.Tables.{entries}
 use Rattle.array.specs.declared.moves.Way.{Way}
@@ -16,7 +17,9 @@ use Rattle.logs.specs.Runs.{swapsIn}
 use Rattle.lists.specs.declared.Trip.{Trip}
 use Rattle.lists.specs.declared.Trip.the-variants.{Concentrate, Distribute}
 use Rattle.slots.specs.declared.Cell.{Cell}
+use Rattle.light.specs.Lanes.{haveBoard}
 use Rattle.slots.specs.Cells.{marksIn}
+use Rattle.slots.specs.Lanes.{cellsBefore, cellsAfter}
 use Rattle.mesh.specs.declared.Leg.{Leg}
 use Rattle.mesh.specs.Mesh.{ruleOf, ranOn, goneIn}
 
@@ -71,3 +74,7 @@ pub record Ran (lanes : Bool) (trip : Trip) (s : ℕ) (rs : List Run) (n : ℕ) 
   pub made : lanes ≡ true → (i : ℕ) → i < cells s → T′ i ≡ after trip s rs 0 n T i
   pub kept : lanes ≡ false → (i : ℕ) → T′ i ≡ T i
   pub log : moved′ ≡ cond lanes (sets moved 0 (movedLog trip s rs 0 n T)) moved
+
+abbrev pub RanLanes : Trip → ℕ → List Run → ℕ → Lent → Lent → Lent → Lent → Lent → Lent → Lent → Type 0
+RanLanes trip s rs n w m a w₂ m₂ a₂ moved =
+    Ran (haveBoard s w m a w₂ m₂ a₂) trip s rs n (cellsBefore w m a w₂ m₂ a₂) (cellsAfter w m a w₂ m₂ a₂) (old moved) (new moved)

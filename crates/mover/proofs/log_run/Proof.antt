@@ -1,38 +1,43 @@
-use Prim.Native.Nat.{_-_}
-use mathlib.Core.Path.{_≡_, refl}
+use Prim.Native.Nat.{ℕ, _+_, _-_}
+use mathlib.Core.Path.{_≡_, refl, ap}
 use native.Mathlib.Omega.{arith}
 use lib.ListN.{length}
-use Rattle.mover.specs.Inside.{movers}
+use Rattle.mover.specs.Inside.{countOf}
 use Rattle.mover.proofs.Running.{Logging, logging-start, logging-next, logging-end}
 use Rattle.mover.proofs.log_run.Statement.{statement}
 use Rattle.mover.proofs.log_run.Tie as tie
 
 abbrev Inv-loop : tie.InvT-loop
-Inv-loop late times made from went moved₀ j₀ moved j = (length moved ≡ length moved₀) × Logging (movers late times went) made from j moved₀ moved
+Inv-loop late times made from tally moved₀ went j₀ moved j = (length moved ≡ length moved₀) × Logging (countOf late times tally) made from j moved₀ moved
 
 abbrev μ-loop : tie.MeasureT-loop
-μ-loop late times made from went moved₀ j₀ moved j = made - j
+μ-loop late times made from tally moved₀ went j₀ moved j = made - j
 
 loop-holds : tie.Need-loop-holds Inv-loop μ-loop
 loop-holds c = (refl, logging-start _ _ _ _)
 
 movers-requires : tie.Need-movers-requires Inv-loop μ-loop
-movers-requires c κs = c .before .before .before .pre .0 .0
+movers-requires c κs = c .before .before .before .before .pre .0 .0
+
+add-count : tie.Need-add-count Inv-loop μ-loop
+add-count c = let s = c .before .before .before .before .before .before in omega (arith, c .before .movers .ensures, s .pre .1 (c .before .before .before .loop .j) (c .before .before .loop-test .taken))
 
 add-log-count : tie.Need-add-log-count Inv-loop μ-loop
-add-log-count c = let s = c .before .before .before .before .before in omega (arith, c .before .before .loop-test .taken, s .pre .0 .1)
+add-log-count c = let s = c .before .before .before .before .before .before .before in omega (arith, c .before .before .before .loop-test .taken, s .pre .0 .1)
 
 log-count-requires : tie.Need-log-count-requires Inv-loop μ-loop
-log-count-requires c κs = let s = c .before .before .before .before .before in omega (arith, c .before .movers .ensures, s .pre .1 (c .before .before .before .loop .j) (c .before .before .loop-test .taken))
+log-count-requires c κs = let s = c .before .before .before .before .before .before .before in omega (arith, c .before .before .movers .ensures, s .pre .1 (c .before .before .before .before .loop .j) (c .before .before .before .loop-test .taken))
 
 add-j : tie.Need-add-j Inv-loop μ-loop
-add-j c = let s = c .before .before .before .before .before .before .before .before in omega (arith, c .before .before .before .before .before .loop-test .taken, s .pre .0 .1)
+add-j c = let s = c .before .before .before .before .before .before .before .before .before .before in omega (arith, c .before .before .before .before .before .before .loop-test .taken, s .pre .0 .1)
 
 loop-less : tie.Need-loop-less Inv-loop μ-loop
-loop-less c = omega (arith, c .before .before .before .before .before .loop-test .taken)
+loop-less c = omega (arith, c .before .before .before .before .before .before .loop-test .taken)
 
 loop-again : tie.Need-loop-again Inv-loop μ-loop
-loop-again c = (omega (arith, c .before .before .before .before .before .before .loop .inv .0, c .before .before .log-count .kept), rw (c .before .before .log-count .ensures) (logging-next _ (c .before .before .before .before .before .loop-test .taken) (c .before .before .before .before .movers .ensures) (c .before .before .before .before .before .before .loop .inv .1)))
+loop-again c = let s = c .before .before .before .before .before .before .before .before .before .before in
+    let e = ap (λ (n : ℕ). n + s .args .tally .swapped) (c .before .before .before .before .before .movers .ensures) in
+    (omega (arith, c .before .before .before .before .before .before .before .loop .inv .0, c .before .before .log-count .kept), rw (c .before .before .log-count .ensures) (logging-next _ (c .before .before .before .before .before .before .loop-test .taken) e (c .before .before .before .before .before .before .before .loop .inv .1)))
 
 same-length : tie.Need-same-length Inv-loop μ-loop
 same-length c = c .before .loop .inv .0
@@ -48,6 +53,7 @@ log-run-spec =
     μ-loop
     loop-holds
     movers-requires
+    add-count
     add-log-count
     log-count-requires
     add-j

@@ -1,98 +1,61 @@
-use mathlib.Core.Path.{sym}
-use Rattle.mover.proofs.Running.{run-leg}
+use mathlib.Core.Path.{_≡_, refl}
+use mathlib.Core.Bool.{true}
+use native.Mathlib.Omega.{arith}
+use Rattle.array.specs.Cells.{cells}
+use Rattle.slots.specs.Cells.{Sized}
+use Rattle.slots.proofs.Boards.{lanes-are}
+use Rattle.mover.proofs.Swapping.{cells-swapped, swap-count}
+use Rattle.mover.proofs.Running.{made-so}
 use borrow.Author.Needs.{needs}
 use Rattle.mover.proofs.make_run.Statement.{statement}
 use Rattle.mover.proofs.make_run.Tie as tie
+use Rattle.light.proofs.swap_lanes.Reads as swap-lanes-reads
+use Rattle.mesh.proofs.run_all.Reads as run-all-reads
 
-enum-told : tie.Need-enum-told
-enum-told c = search needs
+run-all-requires : tie.Need-run-all-requires
+run-all-requires c κs = tt
 
-make-swaps-requires : tie.Need-make-swaps-requires
-make-swaps-requires c κs = search needs
-
-enum-known-step : tie.Need-enum-known-step
-enum-known-step c = search needs
-
-low-after-requires : tie.Need-low-after-requires
-low-after-requires c κs = search needs
-
-is-late-requires : tie.Need-is-late-requires
-is-late-requires c κs = search needs
-
-make-leg-requires : tie.Need-make-leg-requires
-make-leg-requires c κs = search needs
+swap-lanes-requires : tie.Need-swap-lanes-requires
+swap-lanes-requires c κs = tt
 
 same-length : tie.Need-same-length
-same-length c = search needs
+same-length c = omega (arith, c .before .before .before .before .before .before .before .before .before .before .before .before .before .before .before .before .before .before .before .before .before .before .before .before .before .before .before .before .before .before .before .run-all .kept, c .before .before .before .before .before .before .before .before .before .before .before .before .swap-lanes .kept)
 
 same-length-2 : tie.Need-same-length-2
-same-length-2 c = search needs
+same-length-2 c = omega (arith, c .before .before .before .before .before .before .before .before .before .before .before .before .before .before .before .before .before .before .before .before .before .before .before .before .before .before .before .before .before .before .before .run-all .kept, c .before .before .before .before .before .before .before .before .before .before .before .before .swap-lanes .kept)
 
 same-length-3 : tie.Need-same-length-3
-same-length-3 c = search needs
+same-length-3 c = omega (arith, c .before .before .before .before .before .before .before .before .before .before .before .before .before .before .before .before .before .before .before .before .before .before .before .before .before .before .before .before .before .before .before .run-all .kept, c .before .before .before .before .before .before .before .before .before .before .before .before .swap-lanes .kept)
 
 same-length-4 : tie.Need-same-length-4
-same-length-4 c = search needs
+same-length-4 c = omega (arith, c .before .before .before .before .before .before .before .before .before .before .before .before .before .before .before .before .before .before .before .before .before .before .before .before .before .before .before .before .before .before .before .run-all .kept, c .before .before .before .before .before .before .before .before .before .before .before .before .swap-lanes .kept)
 
 same-length-5 : tie.Need-same-length-5
-same-length-5 c = search needs
+same-length-5 c = omega (arith, c .before .before .before .before .before .before .before .before .before .before .before .before .before .before .before .before .before .before .before .before .before .before .before .before .before .before .before .before .before .before .before .run-all .kept, c .before .before .before .before .before .before .before .before .before .before .before .before .swap-lanes .kept)
 
 same-length-6 : tie.Need-same-length-6
-same-length-6 c = search needs
-
-same-length-7 : tie.Need-same-length-7
-same-length-7 c = search needs
+same-length-6 c = omega (arith, c .before .before .before .before .before .before .before .before .before .before .before .before .before .before .before .before .before .before .before .before .before .before .before .before .before .before .before .before .before .before .before .run-all .kept, c .before .before .before .before .before .before .before .before .before .before .before .before .swap-lanes .kept)
 
 returns : tie.Need-returns
-returns c = let s = c .before .before .before .before .before .before .before .before .before .before .before .before .before .before .before .before .before .before .before .before .before .before .before .before .before .before .before .before .before .before .before in rw (c .before .before .before .before .before .before .before .before .before .before .before .before .before .before .before .before .before .before .before .before .before .before .enum-told .given .1) (c .before .before .before .before .before .before .before .before .before .before .before .before .before .before .make-swaps .ensures (s .args .trip) (s .args .swaps) (s .args .run .times))
-
-same-length-8 : tie.Need-same-length-8
-same-length-8 c = search needs
-
-same-length-9 : tie.Need-same-length-9
-same-length-9 c = search needs
-
-same-length-10 : tie.Need-same-length-10
-same-length-10 c = search needs
-
-same-length-11 : tie.Need-same-length-11
-same-length-11 c = search needs
-
-same-length-12 : tie.Need-same-length-12
-same-length-12 c = search needs
-
-same-length-13 : tie.Need-same-length-13
-same-length-13 c = search needs
-
-same-length-14 : tie.Need-same-length-14
-same-length-14 c = search needs
-
-returns-2 : tie.Need-returns-2
-returns-2 c = let s = c .before .before .before .before .before .before .before .before .before .before .before .before .before .before .before .before .before .before .before .before .before .before .before .before .before .before .before .before .before .before .before .before .before .before in run-leg (s .args .trip) (s .args .side) (s .args .swaps) (s .args .run .times) (s .args .made) (c .before .before .before .before .before .before .before .before .before .before .before .before .before .before .before .before .before .before .before .before .before .before .before .before .before .step .given .1) (rw (c .before .before .before .before .before .before .before .before .before .before .before .before .before .before .before .before .before .before .before .before .before .before .before .low-after .ensures, c .before .before .before .before .before .before .before .before .before .before .before .before .before .before .before .before .before .before .before .before .before .before .is-late .ensures)) (c .before .before .before .before .before .before .before .before .before .before .before .before .before .before .make-leg .ensures)
+returns c = let s = c .before .before .before .before .before .before .before .before .before .before .before .before .before .before .before .before .before .before .before .before .before .before .before .before .before .before .before .before .before .before .before .before .before .before .before .before .before .before .before .before .before .before .before .before in
+    let side = s .pre .0 in
+    let r = c .before .before .before .before .before .before .before .before .before .before .before .before .before .before .before .before .before .before .before .before .before .before .before .before .before .before .before .before .before .before .before .run-all in
+    let l = r .last .1 in
+    let z : Sized (cells (s .args .leg .side)) (l .0) (l .1 .0) (l .1 .1 .0) (l .1 .1 .1 .0) (l .1 .1 .1 .1 .0) (l .1 .1 .1 .1 .1 .0) = omega (arith, s .pre .1, r .kept) in
+    let on = lanes-are (s .args .leg .side) side z in
+    let q = c .before .before .before .before .before .before .before .before .before .before .before .before .swap-lanes .ensures in
+    made-so side (lanes-are (s .args .leg .side) side (s .pre .1)) (r .ensures) (cells-swapped _ side z (s .args .swaps) on q) (swap-count _ side z (s .args .swaps) on q)
 
 pub make-run-spec : {M : Type 1} → statement M
 make-run-spec =
     tie.close
     (tie.spec
-    enum-told
-    make-swaps-requires
-    enum-known-step
-    low-after-requires
-    is-late-requires
-    make-leg-requires
+    run-all-requires
+    swap-lanes-requires
     same-length
     same-length-2
     same-length-3
     same-length-4
     same-length-5
     same-length-6
-    same-length-7
-    returns
-    same-length-8
-    same-length-9
-    same-length-10
-    same-length-11
-    same-length-12
-    same-length-13
-    same-length-14
-    returns-2)
+    returns)
