@@ -1,13 +1,18 @@
 -- How many moves each list has, electronic and by light, for every side.
 use Prim.Native.Nat.{ℕ, _-_, _*_, _<_}
 use mathlib.Core.Path.{_≡_, refl}
+use mathlib.Core.Bool.{true, cond}
 use native.Mathlib.Omega.{arith}
 use lib.ListN.{length}
-use Rattle.array.specs.Cells.{cells, group, place}
+use Rattle.array.specs.Cells.{isSide, cells, group, place}
 use Rattle.logs.specs.Runs.{moves, electronic, swaps}
 use Rattle.logs.proofs.Lengths.{length-moves}
 use Rattle.lists.specs.Lists.{totalMoves, broadcastList, dataSumRuns, prefixSumRuns, concentrateRuns, distributeRuns}
 use Rattle.array.proofs.Board.{row-in, column-in, place-in, group-in}
+
+-- what the code counts on a board
+pub total-on-board : (s n : ℕ) → isSide s ≡ true → n ≡ cond (isSide s) (totalMoves s) 0 → n ≡ totalMoves s
+total-on-board s n h e = rw h at e
 
 module _ (s : ℕ) where
   pub data-sum-electronic : electronic (dataSumRuns s) ≡ 8 * (s - 1)
