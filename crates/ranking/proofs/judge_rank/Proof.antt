@@ -1,9 +1,13 @@
--- `ranking::answer_of` meets its contract: its cases, one around the other; the list's counts fit where the side is one that is built.
-use mathlib.Core.Path.{_∙_}
-use Rattle.ranking.proofs.Answering.{answer-is}
+-- `ranking::judge_rank` meets its contract: its cases, one before the other.
+use mathlib.Core.Path.{ap, _∙_}
+use mathlib.Core.List.{List}
 use borrow.Author.Needs.{needs}
-use Rattle.ranking.proofs.answer_of.Statement.{statement}
-use Rattle.ranking.proofs.answer_of.Tie as tie
+use lib.ListN.{length}
+use Rattle.logs.specs.declared.Run.{Run}
+use Rattle.answers.specs.Answers.{acceptedBy, logCase}
+use Rattle.answers.proofs.Verdicts.{case-before, lane-before}
+use Rattle.ranking.proofs.judge_rank.Statement.{statement}
+use Rattle.ranking.proofs.judge_rank.Tie as tie
 
 prefix-sum-runs-requires : tie.Need-prefix-sum-runs-requires
 prefix-sum-runs-requires c κs = search needs
@@ -29,25 +33,22 @@ lane-case-requires c κs = search needs
 refusing-requires-3 : tie.Need-refusing-requires-3
 refusing-requires-3 c κs = search needs
 
-lane-case-requires-2 : tie.Need-lane-case-requires-2
-lane-case-requires-2 c κs = search needs
-
-refusing-requires-4 : tie.Need-refusing-requires-4
-refusing-requires-4 c κs = search needs
-
-side-case-requires : tie.Need-side-case-requires
-side-case-requires c κs = search needs
-
-refusing-requires-5 : tie.Need-refusing-requires-5
-refusing-requires-5 c κs = search needs
+refusing-lane-requires : tie.Need-refusing-lane-requires
+refusing-lane-requires c κs = search needs
 
 returns : tie.Need-returns
 returns c =
-    (rw (c .before .side-case .ensures, c .before .before .refusing4 .ensures, c .before .before .before .lane-case2 .ensures, c .before .before .before .before .refusing3 .ensures, c .before .before .before .before .before .lane-case .ensures, c .before .before .before .before .before .before .refusing2 .ensures, c .before .before .before .before .before .before .before .log-case .ensures, c .before .before .before .before .before .before .before .before .refusing .ensures, c .before .before .before .before .before .before .before .before .before .before .marks-case .ensures, c .before .before .before .before .before .before .before .before .before .accepted-by .ensures, c .before .before .before .before .before .before .before .before .before .before .before .prefix-sum-runs .ensures) at (c .refusing5 .ensures))
-    ∙ answer-is (c .before .before .before .before .before .before .before .before .before .before .before .before .before .args .side) (c .before .before .before .before .before .before .before .before .before .before .before .before .before .args .marks .now) (c .before .before .before .before .before .before .before .before .before .before .before .before .before .args .aims) (c .before .before .before .before .before .before .before .before .before .before .before .before .before .args .log)
+    let l = c .before .before .before .before in
+    let g = l .before in
+    let m = g .before .before in
+    let a = m .before .before .before .args in
+    let listed = m .before .prefix-sum-runs .ensures in
+    let good = case-before (g .refusing .ensures) (m .marks-case .ensures) (g .before .accepted-by .ensures ∙ ap acceptedBy listed) in
+    let room = case-before (c .before .before .before .refusing2 .ensures) (l .log-case .ensures ∙ ap (λ (rs : List Run). logCase rs (a .log)) listed) good in
+    lane-before (a .side) (length (a .marks .now)) (c .refusing-lane .ensures) (case-before (c .before .refusing3 .ensures) (c .before .before .lane-case .ensures) room)
 
-pub answer-of-spec : {M : Type 1} → statement M
-answer-of-spec =
+pub judge-rank-spec : {M : Type 1} → statement M
+judge-rank-spec =
     tie.close
     (tie.spec
     prefix-sum-runs-requires
@@ -58,8 +59,5 @@ answer-of-spec =
     refusing-requires-2
     lane-case-requires
     refusing-requires-3
-    lane-case-requires-2
-    refusing-requires-4
-    side-case-requires
-    refusing-requires-5
+    refusing-lane-requires
     returns)
