@@ -28,8 +28,10 @@ group-room s g n e h =
       inside = ltb-true g (groups s) (not-false _ (k .1 .1 .0));
     }
 
-pub group-inside : (s g n : ℕ) → GroupRoom s g n → g * groups s + groups s ≤ n
-group-inside s g n z = rw (z .whole, ← suc-mul) (mul-le-mul-right (groups s) (z .inside))
+pub group-inside : (s g n : ℕ) {r : Answer} → r ≡ groupAnswer s g n → r .number ≡ 0 → g * groups s + groups s ≤ n
+group-inside s g n e h =
+    let z = group-room s g n e h in
+    rw (z .whole, ← suc-mul) (mul-le-mul-right (groups s) (z .inside))
 
 -- what is handed back, refused and accepted
 module _ (s g : ℕ) (words : List ℕ) {r : Answer} (e : r ≡ groupAnswer s g (length words)) where

@@ -31,19 +31,19 @@ mul-start : tie.Need-mul-start
 mul-start c =
     let b = c .before .before in
     let a = b .before .before .args in
-    omega (arith, group-inside (a .side) (a .group) _ (group-room (a .side) (a .group) (length (a .words .now)) (b .judge-group .ensures) (c .if1 .left)))
+    omega (arith, group-inside (a .side) (a .group) (length (a .words .now)) (b .judge-group .ensures) (c .if1 .left))
 
 add-result : tie.Need-add-result
 add-result c =
     let b = c .before .before in
     let a = b .before .before .args in
-    omega (arith, group-inside (a .side) (a .group) _ (group-room (a .side) (a .group) (length (a .words .now)) (b .judge-group .ensures) (c .if1 .left)))
+    omega (arith, group-inside (a .side) (a .group) (length (a .words .now)) (b .judge-group .ensures) (c .if1 .left))
 
 mul-words : tie.Need-mul-words
 mul-words c =
     let b = c .before .before in
     let a = b .before .before .args in
-    omega (arith, group-inside (a .side) (a .group) _ (group-room (a .side) (a .group) (length (a .words .now)) (b .judge-group .ensures) (c .if1 .left)))
+    omega (arith, group-inside (a .side) (a .group) (length (a .words .now)) (b .judge-group .ensures) (c .if1 .left))
 
 sub-result : tie.Need-sub-result
 sub-result c = search needs
@@ -55,7 +55,7 @@ part-words-end : tie.Need-part-words-end
 part-words-end c =
     let b = c .before .before in
     let a = b .before .before .args in
-    omega (arith, group-inside (a .side) (a .group) _ (group-room (a .side) (a .group) (length (a .words .now)) (b .judge-group .ensures) (c .if1 .left)))
+    omega (arith, group-inside (a .side) (a .group) (length (a .words .now)) (b .judge-group .ensures) (c .if1 .left))
 
 returns-2 : tie.Need-returns-2
 returns-2 c =
