@@ -11,7 +11,7 @@ ghost use mathlib.Core.List.{[], _∷_};
 ghost use lib.Dec.{ltb};
 ghost use lib.ListN.{length as lengthOf};
 ghost use Rattle.logs.specs.Runs.{moves};
-ghost use Rattle.answers.specs.Answers.{refused as refusedOf, accepted as acceptedOf, refusing as refusingOf, verdict, sideCase, laneCase, logCase, acceptedBy};
+ghost use Rattle.answers.specs.Answers.{refused as refusedOf, accepted as acceptedOf, acceptedBy, caseOf, refusing as refusingOf, verdict, sideCase, laneCase, logCase};
 
 // The refusal number, or 0; the place that it names; the moves that were made.
 #[repr(C)]
@@ -40,7 +40,7 @@ fn refused(number: usize, place: usize) -> Answer
     }
 }
 
-pub fn accepted(electronic: usize, swaps: usize) -> Answer
+fn accepted(electronic: usize, swaps: usize) -> Answer
     ensures { λ r. ⌜ r ≡ acceptedOf electronic swaps ⌝ }
 {
     Answer {
@@ -48,6 +48,16 @@ pub fn accepted(electronic: usize, swaps: usize) -> Answer
         place: 0,
         electronic: electronic,
         swaps: swaps,
+    }
+}
+
+pub fn case_of(applies: bool, number: usize, place: usize) -> Case
+    ensures { λ r. ⌜ r ≡ caseOf applies number place ⌝ }
+{
+    Case {
+        applies: applies,
+        number: number,
+        place: place,
     }
 }
 
@@ -62,21 +72,13 @@ pub fn refusing(case: Case, otherwise: Answer) -> Answer
 pub fn side_case(side: usize) -> Case
     ensures { λ r. ⌜ r ≡ sideCase side ⌝ }
 {
-    Case {
-        applies: !is_side(side),
-        number: 1,
-        place: 0,
-    }
+    case_of(!is_side(side), 1, 0)
 }
 
 pub fn lane_case(side: usize, length: usize) -> Case
     ensures { λ r. ⌜ r ≡ laneCase side length ⌝ }
 {
-    Case {
-        applies: !is_cells(side, length),
-        number: 2,
-        place: 0,
-    }
+    case_of(!is_cells(side, length), 2, 0)
 }
 
 // The list has a move that a log of this length does not reach.
@@ -92,11 +94,7 @@ fn is_too_short(runs: [Run; 9], length: usize) -> bool
 pub fn log_case(runs: [Run; 9], length: usize) -> Case
     ensures { λ r. ⌜ r ≡ logCase runs length ⌝ }
 {
-    Case {
-        applies: is_too_short(runs, length),
-        number: 3,
-        place: 0,
-    }
+    case_of(is_too_short(runs, length), 3, 0)
 }
 
 // The answer of a list that was made, with its counts.
@@ -117,11 +115,12 @@ pub fn accepted_by(runs: [Run; 9]) -> Answer
     accepted(electronic, swaps)
 }
 
-// The cases that every entry with a log shares, in their order: the side, the lane's length, the log's length.
-pub fn checked(side: usize, lane: usize, runs: [Run; 9], log: usize, otherwise: Answer) -> Answer
-    ensures { λ r. ⌜ r ≡ verdict (sideCase side ∷ laneCase side lane ∷ logCase runs log ∷ []) otherwise ⌝ }
+// The answer of the cases of the side and of a lane, and else the other.
+pub fn refusing_lane(side: usize, length: usize, otherwise: Answer) -> Answer
+    ensures { λ r. ⌜ r ≡ verdict (sideCase side ∷ laneCase side length ∷ []) otherwise ⌝ }
 {
-    let room = refusing(log_case(runs, log), otherwise);
-    let sized = refusing(lane_case(side, lane), room);
-    refusing(side_case(side), sized)
+    refusing(
+        side_case(side),
+        refusing(lane_case(side, length), otherwise),
+    )
 }

@@ -2,15 +2,15 @@
 // C declaration to these signatures, so the boundary trusts the header, which tests alone check.
 use answers::Answer;
 use ranking::rank;
-use records::entries::concentrate;
-use records::entries::distribute;
+use records::concentrate;
+use records::distribute;
 ghost use Rattle.lists.specs.declared.Trip.the-variants.{Concentrate, Distribute};
 ghost use Rattle.ranking.specs.Entries.{Ranked};
 ghost use Rattle.records.specs.Entries.{FullRun};
 
 #[no_mangle]
 pub extern "C" fn otis_rank(side: usize, marks: &[u8], aims: &mut [u16], codes: &mut [u8]) -> Answer
-    ensures { λ r. ⌜ Ranked side (now (marks .entry)) (now (aims .entry)) (now (codes .entry)) r (now (aims .exit)) (now (codes .exit)) ⌝ }
+    ensures { λ r. ⌜ Ranked side marks aims codes r ⌝ }
 {
     rank(side, marks, aims, codes)
 }
@@ -27,7 +27,7 @@ pub extern "C" fn otis_concentrate(
     codes: &mut [u8],
     moved: &mut [u16],
 ) -> Answer
-    ensures { λ r. ⌜ FullRun Concentrate side (now (words .entry)) (now (marks .entry)) (now (aims .entry)) (now («spare_words» .entry)) (now («spare_marks» .entry)) (now («spare_aims» .entry)) (now (words .exit)) (now (marks .exit)) (now (aims .exit)) (now («spare_words» .exit)) (now («spare_marks» .exit)) (now («spare_aims» .exit)) (now (codes .entry)) (now (codes .exit)) (now (moved .entry)) (now (moved .exit)) r ⌝ }
+    ensures { λ r. ⌜ FullRun Concentrate side words marks aims «spare_words» «spare_marks» «spare_aims» codes moved r ⌝ }
 {
     concentrate(
         side,
@@ -54,7 +54,7 @@ pub extern "C" fn otis_distribute(
     codes: &mut [u8],
     moved: &mut [u16],
 ) -> Answer
-    ensures { λ r. ⌜ FullRun Distribute side (now (words .entry)) (now (marks .entry)) (now (aims .entry)) (now («spare_words» .entry)) (now («spare_marks» .entry)) (now («spare_aims» .entry)) (now (words .exit)) (now (marks .exit)) (now (aims .exit)) (now («spare_words» .exit)) (now («spare_marks» .exit)) (now («spare_aims» .exit)) (now (codes .entry)) (now (codes .exit)) (now (moved .entry)) (now (moved .exit)) r ⌝ }
+    ensures { λ r. ⌜ FullRun Distribute side words marks aims «spare_words» «spare_marks» «spare_aims» codes moved r ⌝ }
 {
     distribute(
         side,

@@ -2,7 +2,6 @@
 use crate::board::cells;
 use crate::board::show;
 use crate::lines;
-use records::entries;
 ghost use Prim.Native.Nat.{_≤_};
 
 // The log of a whole run.
@@ -29,7 +28,7 @@ pub(crate) fn concentrate(
     let mut spare_aims = [7u16; 4096];
     let mut codes = [9u8; 4096];
     let mut moved = [9u16; 4096];
-    lines::values(entries::concentrate(
+    lines::values(records::concentrate(
         side,
         &mut words[..n],
         &mut marks[..n],
@@ -61,7 +60,7 @@ pub(crate) fn distribute(
     let mut spare_aims = [7u16; 4096];
     let mut codes = [9u8; 4096];
     let mut moved = [9u16; 4096];
-    lines::values(entries::distribute(
+    lines::values(records::distribute(
         side,
         &mut words[..n],
         &mut marks[..n],
@@ -88,7 +87,7 @@ pub(crate) fn concentrate_cut(
     let mut spare_words = [7u32; 4096];
     let mut spare_marks = [7u8; 4096];
     let mut spare_aims = [7u16; 4096];
-    lines::values(entries::concentrate_cut(
+    lines::values(records::concentrate_cut(
         side,
         cut,
         &mut words[..n],
@@ -113,7 +112,7 @@ pub(crate) fn distribute_cut(
     let mut spare_words = [7u32; 4096];
     let mut spare_marks = [7u8; 4096];
     let mut spare_aims = [7u16; 4096];
-    lines::values(entries::distribute_cut(
+    lines::values(records::distribute_cut(
         side,
         cut,
         &mut words[..n],

@@ -1,18 +1,19 @@
 // Lanes before the first move: an unmarked cell holds 0, and so does every cell of a spare lane.
 ghost use mathlib.Core.Path.{_≡_};
 ghost use lib.ListN.{getD};
+ghost use Rattle.laws.specs.Lent.{old, new};
 ghost use Rattle.clearing.specs.Cleared.{kept, zeros};
 
 // The mark of cell i; 0 where there is no such cell.
 fn mark_at(marks: &[u8], i: usize) -> u8
-    ensures { λ r. ⌜ r ≡ getD (now (marks .entry)) i 0 ⌝ }
+    ensures { λ r. ⌜ r ≡ getD (old marks) i 0 ⌝ }
 {
     if i < marks.len() { marks[i] } else { 0 }
 }
 
 // Unmarked cells hold 0.
 pub fn keep_words(marks: &[u8], words: &mut [u32])
-    ensures { λ _. ⌜ now (words .exit) ≡ kept (now (marks .entry)) (now (words .entry)) ⌝ }
+    ensures { λ _. ⌜ new words ≡ kept (old marks) (old words) ⌝ }
 {
     let mut i: usize = 0;
     while i < words.len() {
@@ -25,7 +26,7 @@ pub fn keep_words(marks: &[u8], words: &mut [u32])
 
 // Unmarked cells hold 0.
 pub fn keep_aims(marks: &[u8], aims: &mut [u16])
-    ensures { λ _. ⌜ now (aims .exit) ≡ kept (now (marks .entry)) (now (aims .entry)) ⌝ }
+    ensures { λ _. ⌜ new aims ≡ kept (old marks) (old aims) ⌝ }
 {
     let mut i: usize = 0;
     while i < aims.len() {
@@ -38,7 +39,7 @@ pub fn keep_aims(marks: &[u8], aims: &mut [u16])
 
 // Every cell holds 0.
 pub fn zero_words(spare_words: &mut [u32])
-    ensures { λ _. ⌜ now («spare_words» .exit) ≡ zeros (now («spare_words» .entry)) ⌝ }
+    ensures { λ _. ⌜ new «spare_words» ≡ zeros (old «spare_words») ⌝ }
 {
     let mut i: usize = 0;
     while i < spare_words.len() {
@@ -49,7 +50,7 @@ pub fn zero_words(spare_words: &mut [u32])
 
 // Every cell holds 0.
 pub fn zero_marks(spare_marks: &mut [u8])
-    ensures { λ _. ⌜ now («spare_marks» .exit) ≡ zeros (now («spare_marks» .entry)) ⌝ }
+    ensures { λ _. ⌜ new «spare_marks» ≡ zeros (old «spare_marks») ⌝ }
 {
     let mut i: usize = 0;
     while i < spare_marks.len() {
@@ -60,7 +61,7 @@ pub fn zero_marks(spare_marks: &mut [u8])
 
 // Every cell holds 0.
 pub fn zero_aims(spare_aims: &mut [u16])
-    ensures { λ _. ⌜ now («spare_aims» .exit) ≡ zeros (now («spare_aims» .entry)) ⌝ }
+    ensures { λ _. ⌜ new «spare_aims» ≡ zeros (old «spare_aims») ⌝ }
 {
     let mut i: usize = 0;
     while i < spare_aims.len() {

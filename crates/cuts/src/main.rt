@@ -3,7 +3,7 @@
 use io::print_decimal;
 use libc::STDOUT_FILENO;
 use ranking::rank;
-use records::entries::concentrate_cut;
+use records::concentrate_cut;
 ghost use Prim.Native.Nat.{_≤_};
 
 fn field(n: u64) {

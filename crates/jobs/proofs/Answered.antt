@@ -9,6 +9,7 @@ use lib.Seq.{length-take-le, getD-take}
 use Rattle.laws.specs.Tables.{entries}
 use Rattle.laws.proofs.Sums.{sum-cong}
 use Rattle.laws.proofs.Tables.{entries-all}
+use Rattle.lists.specs.Lists.{totalMoves}
 use Rattle.array.specs.Cells.{isSide, cells}
 use Rattle.array.proofs.Board.{side-known}
 use Rattle.lists.specs.declared.Trip.the-variants.{Concentrate}
@@ -24,7 +25,7 @@ use mir.Val.{Fits}
 use Rattle.jobtext.proofs.Cells.{square-fits, cells-fit}
 use Rattle.jobtext.proofs.Accepted.{Rising, Known, known, few as few-cells}
 use Rattle.jobs.specs.Outputs.{homeOf, wordsIn, movedCounts as jobCounts, outputOf}
-use Rattle.jobs.specs.Filled.{Filled, movesOf, printedOf, refusalOf}
+use Rattle.jobs.specs.Filled.{Filled, printedOf, refusalOf}
 use Rattle.jobs.specs.Inside.{Settled, Lanes, lanesText}
 use Rattle.jobs.proofs.Ranks.{laneIn, laid-long, home-in, ranked, all-marked, home-value, home-marked, marks-small}
 use Rattle.jobs.proofs.Solved.{changing, counts-same}
@@ -97,9 +98,9 @@ module _ (s : ℕ) (es : List Marked) (side : isSide s ≡ true) (d : Rising 0 (
     few = small;
   }
 
-  moved-same : movedCounts Concentrate s (movesOf s) marks [] ≡ jobCounts s es
+  moved-same : movedCounts Concentrate s (totalMoves s) marks [] ≡ jobCounts s es
   moved-same =
-      ap (λ (b : ℕ). entries (changing s b (markedCell marks (cells s))) 0 (movesOf s)) counted
+      ap (λ (b : ℕ). entries (changing s b (markedCell marks (cells s))) 0 (totalMoves s)) counted
       ∙ counts-same s es (markedCell marks (cells s)) homes
 
   words-same : entries (λ r. getD words (markedCell marks (cells s) r) 0) 0 (length es) ≡ wordsIn es
@@ -114,7 +115,8 @@ module _ (s : ℕ) (es : List Marked) (side : isSide s ≡ true) (d : Rising 0 (
 
 -- what `run` needs of a job that was read
 module _ {w₀ w m₀ m : List ℕ} {job : Job} where
-  lanes-of : (v : Verdict) → Known v → JobRead v w₀ w m₀ m job → (s k : ℕ) → job ≡ Ready s k → Lanes s k (take (cells s) w) (take (cells s) m) × (lanesText s k (take (cells s) w) (take (cells s) m) ≡ outputOf v)
+  lanes-of : (v : Verdict) → Known v → JobRead v w₀ w m₀ m job → (s k : ℕ) → job ≡ Ready s k
+      → Lanes s k (take (cells s) w) (take (cells s) m) × (lanesText s k (take (cells s) w) (take (cells s) m) ≡ outputOf v)
   unfolding jobOf laneOf
   lanes-of (accepted s′ es) n z s k e =
       let p : s′ ≡ s = cc (z .answer, e) in

@@ -7,15 +7,16 @@ use lib.ListN.{length, getD}
 use Rattle.array.specs.Cells.{cells}
 use Rattle.travel.proofs.Collide.{at-the-end}
 use Rattle.lists.specs.declared.Trip.the-variants.{Concentrate}
+use Rattle.lists.specs.Lists.{totalMoves}
 use Rattle.slots.specs.declared.Rec.{Rec}
 use Rattle.slots.specs.declared.Cell.{Cell}
-use Rattle.slots.specs.Cells.{alone, cellAt}
+use Rattle.slots.specs.Cells.{alone}
 use Rattle.course.specs.Showing.{Shows}
 use Rattle.course.proofs.Holds.{hold1, holds-one}
 use Rattle.course.proofs.Content.{Rising, content-holds}
 use Rattle.course.proofs.Course.{shows-same}
 use Rattle.marks.specs.Marks.{rankIn}
-use Rattle.refusals.specs.Cases.{totalMoves, Good}
+use Rattle.refusals.specs.Cases.{Good}
 use Rattle.records.specs.Records.{markedCell, countIn}
 use Rattle.records.specs.Entries.{Stood}
 use Rattle.refusals.proofs.Aims.{good-ranked}
@@ -27,9 +28,10 @@ own-cell z o r h u =
     o .cells r u ∙ holds-one (content-holds z (λ k. k) (fits-alone (λ i j v l e. omega arith)) r) (hold1 r refl (h, refl) (λ k q. q .1))
 
 module _ (s : ℕ) (some : 0 < s) (words marks aims : List ℕ) (long : length marks ≡ cells s) (good : Good Concentrate s marks aims) where
-  pub word-there : (w′ m′ a′ w₂′ m₂′ a₂′ : List ℕ) → Stood Concentrate s (totalMoves s) words marks aims (cellAt w′ m′ a′ w₂′ m₂′ a₂′)
-      → (r : ℕ) → r < countIn s marks → r < cells s → getD w′ r 0 ≡ getD words (markedCell marks (cells s) r) 0
-  word-there w′ m′ a′ w₂′ m₂′ a₂′ o r h u =
+  pub word-there : {T : ℕ → Cell} → Stood Concentrate s (totalMoves s) words marks aims T → (r : ℕ) → r < countIn s marks → r < cells s
+      → T r .front .word ≡ getD words (markedCell marks (cells s) r) 0
+  word-there o r h u =
       let k = good-ranked s marks aims long good in
-      let e = shows-same (λ r v. at-the-end s (rankIn marks (cells s)) some (markedCell marks (cells s)) (start-rises s words marks aims k) (start-inside s words marks aims k) r v) o in
+      let rises = start-rises s words marks aims k in
+      let e = shows-same (λ r v. at-the-end s (rankIn marks (cells s)) some (markedCell marks (cells s)) rises (start-inside s words marks aims k) r v) o in
       ap (λ (c : Cell). c .front .word) (own-cell (start-rising s words marks aims k) e r h u)

@@ -5,13 +5,14 @@ use mathlib.Core.List.{List}
 use native.Mathlib.Omega.{arith}
 use lib.ListN.{length, take, length-append}
 use lib.Seq.{length-take-le}
+use Rattle.lists.specs.Lists.{totalMoves}
 use Rattle.printing.specs.Buffers.{Written}
 use Rattle.printing.proofs.Putting.{whole}
 use Rattle.jobtext.specs.declared.Job.{Job}
 use Rattle.jobtext.specs.declared.Job.the-variants.{Ready, Refused}
-use Rattle.answertext.specs.Answers.{refusedText}
+use Rattle.answertext.specs.Answers.{answerText, refusedText}
 use Rattle.answertext.proofs.Room.{answer-fits, refusal-fits}
-use Rattle.jobs.specs.Filled.{Filled, refusalOf, movesOf, printedOf}
+use Rattle.jobs.specs.Filled.{Filled, refusalOf, printedOf}
 
 filled : {out text : List ℕ} {r : ℕ} {out′ : List ℕ} → length text ≤ length out → Written out 0 text r out′ → Filled out text r out′
 filled h w = record { count = whole h w .0; is = whole h w .1 }
@@ -31,10 +32,10 @@ pub no-line : (job : Job) (s m : ℕ) → job ≡ Ready s m → (out : List ℕ)
 unfolding refusalOf
 no-line job s m e out = rw e (record { count = refl; is = refl })
 
-pub printed : (s marked : ℕ) (codes moved words : List ℕ) → s ≤ 8 → marked ≤ 4096 → {a : List ℕ} {r : ℕ} {b : List ℕ} → length a ≡ 196608 → length codes ≡ 51 → marked ≤ length words
-    → Written a 0 (printedOf s marked codes moved words) r b → Filled a (printedOf s marked codes moved words) r b
-printed s marked codes moved words h k l c m w =
-    let n : movesOf s ≤ 51 = omega arith in
-    let p : length (take (movesOf s) codes) ≤ 51 = rw (length-take-le (movesOf s) codes (omega arith)) n in
+pub printed : (s marked n : ℕ) (codes moved words : List ℕ) → n ≡ totalMoves s → s ≤ 8 → marked ≤ 4096 → {a : List ℕ} {r : ℕ} {b : List ℕ} → length a ≡ 196608 → length codes ≡ 51
+    → marked ≤ length words → Written a 0 (answerText (take n codes) (take n moved) (take marked words)) r b → Filled a (printedOf s marked codes moved words) r b
+printed s marked n codes moved words e h k l c m w =
+    let all : totalMoves s ≤ 51 = omega arith in
+    let p : length (take (totalMoves s) codes) ≤ 51 = rw (length-take-le (totalMoves s) codes (omega arith)) all in
     let q : length (take marked words) ≤ 4096 = rw (length-take-le marked words m) k in
-    filled (omega (arith, answer-fits (take (movesOf s) codes) (take (movesOf s) moved) (take marked words) p q)) w
+    filled (omega (arith, answer-fits (take (totalMoves s) codes) (take (totalMoves s) moved) (take marked words) p q)) (rw e at w)

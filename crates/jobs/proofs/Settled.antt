@@ -5,31 +5,32 @@ use mathlib.Core.Bool.{Bool, true, false, not, _&&_}
 use mathlib.Core.List.{List, []}
 use native.Mathlib.Omega.{arith}
 use borrow.Author.Tests.{eq-eqb, le-ltb}
-use lib.ListN.{length, getD, take, length-map}
-use lib.Seq.{sets, length-sets}
+use lib.ListN.{length, getD, take, drop, length-append, length-drop}
+use lib.Seq.{take-at}
 use lib.Dec.{eqb}
 use Rattle.laws.specs.Searching.{first}
 use Rattle.laws.proofs.Searching.{all-passed}
-use Rattle.laws.proofs.Stores.{front-of}
 use Rattle.laws.proofs.Tables.{entry-at, length-entries}
 use Rattle.answers.specs.declared.Answer.{Answer}
 use Rattle.array.specs.Cells.{isSide, cells}
-use Rattle.array.specs.Moves.{codeOf}
-use Rattle.logs.specs.Runs.{moves, electronic, swaps, codes as codesOf}
+use Rattle.logs.specs.Runs.{codes as codesOf}
 use Rattle.lists.specs.declared.Trip.the-variants.{Concentrate}
-use Rattle.lists.specs.Lists.{concentrateRuns, prefixSumRuns}
-use Rattle.answers.specs.Answers.{verdict, accepted, acceptedBy}
+use Rattle.lists.specs.Lists.{totalMoves, concentrateRuns, prefixSumRuns}
+use Rattle.answers.specs.Answers.{verdict, acceptedBy, logCase}
+use Rattle.answers.specs.Entry.{Entry, inFront}
 use Rattle.array.proofs.Board.{side-known}
 use Rattle.lists.proofs.Counts.{prefix-sum-length, concentrate-length}
 use Rattle.answers.proofs.Verdicts.{accepted-is, side-passes, lane-passes, log-passes}
+use Rattle.answers.proofs.Entering.{codes-length}
+use Rattle.slots.specs.declared.Cell.{Cell}
+use Rattle.slots.specs.Cells.{Sized}
 use Rattle.marks.specs.Marks.{marksCase, rankIn}
 use Rattle.marks.proofs.Checked.{good-passes}
 use Rattle.ranking.specs.Ranks.{aimIn, ranks}
-use Rattle.ranking.specs.Entries.{rankCases, Ranked}
+use Rattle.ranking.specs.Entries.{rankCases}
 use Rattle.refusals.specs.Cases.{badAim, aimsCase, fullCases, Good}
 use Rattle.records.specs.Records.{movedCounts}
-use Rattle.records.specs.Entries.{FullRun}
-use Rattle.jobs.specs.Filled.{movesOf}
+use Rattle.records.specs.Entries.{Stood, sizesOf}
 use Rattle.jobs.specs.Inside.{Board, Settled}
 use Rattle.jobs.proofs.Ended.{word-there}
 
@@ -40,8 +41,8 @@ module _ (s : ℕ) (side : isSide s ≡ true) (marks : List ℕ) (long : length 
   -- rank accepts
   pub rank-accepts : (aims log : ℕ) (a : Answer) → aims ≡ cells s → 51 ≤ log → verdict (rankCases s marks aims log) a ≡ a
   rank-accepts aims log a e h =
-      accepted-is (rankCases s marks aims log) a
-      (side-passes s side, (lane-passes s (length marks) long, (lane-passes s aims e, (log-passes (prefixSumRuns s) log (omega (arith, prefix-sum-length s, side-known s side .most)), (marks-pass, tt)))))
+      let room = log-passes (prefixSumRuns s) log (omega (arith, prefix-sum-length s, side-known s side .most)) in
+      accepted-is (rankCases s marks aims log) a (side-passes s side, (lane-passes s (length marks) long, (lane-passes s aims e, (room, (marks-pass, tt)))))
 
   -- its aims are good
   aim-good : (k : ℕ) → k < length marks → badAim Concentrate s marks (ranks s marks) k ≡ false
@@ -63,28 +64,24 @@ module _ (s : ℕ) (side : isSide s ≡ true) (marks : List ℕ) (long : length 
       (omega (arith, all-passed (badAim Concentrate s marks (ranks s marks)) (length marks) aim-good))
 
   -- concentrate accepts
-  pub concentrate-accepts : (w a w₂ m₂ a₂ codes moved : ℕ) (b : Answer) → w ≡ cells s → a ≡ cells s → w₂ ≡ cells s → m₂ ≡ cells s → a₂ ≡ cells s → 51 ≤ codes → 51 ≤ moved
-      → verdict (fullCases Concentrate s w (length marks) a w₂ m₂ a₂ codes moved marks (ranks s marks)) b ≡ b
-  concentrate-accepts w a w₂ m₂ a₂ codes moved b p q p₂ o₂ q₂ c m =
-      accepted-is (fullCases Concentrate s w (length marks) a w₂ m₂ a₂ codes moved marks (ranks s marks)) b (
+  pub concentrate-accepts : (w a w₂ m₂ a₂ : List ℕ) (codes moved : ℕ) (b : Answer) → Sized (cells s) w marks a w₂ m₂ a₂ → 51 ≤ codes → 51 ≤ moved
+      → verdict (fullCases Concentrate s (sizesOf w w₂ m₂ a₂) marks (ranks s marks) codes moved) b ≡ b
+  concentrate-accepts w a w₂ m₂ a₂ codes moved b z c m =
+      let logs : (n : ℕ) → 51 ≤ n → logCase (concentrateRuns s) n .applies ≡ false = λ n h.
+      log-passes (concentrateRuns s) n (omega (arith, concentrate-length s, side-known s side .most)) in
+      accepted-is (fullCases Concentrate s (sizesOf w w₂ m₂ a₂) marks (ranks s marks) codes moved) b (
         side-passes s side,
         (
-          lane-passes s w p,
+          lane-passes s (length w) (z .words),
           (
             lane-passes s (length marks) long,
             (
-              lane-passes s a q,
+              lane-passes s (length (ranks s marks)) (length-entries (aimIn marks) 0 (cells s)),
               (
-                lane-passes s w₂ p₂,
+                lane-passes s (length w₂) (z .words2),
                 (
-                  lane-passes s m₂ o₂,
-                  (
-                    lane-passes s a₂ q₂,
-                    (
-                      log-passes (concentrateRuns s) codes (omega (arith, concentrate-length s, side-known s side .most)),
-                      (log-passes (concentrateRuns s) moved (omega (arith, concentrate-length s, side-known s side .most)), (marks-pass, (aims-pass, tt))),
-                    ),
-                  ),
+                  lane-passes s (length m₂) (z .marks2),
+                  (lane-passes s (length a₂) (z .aims2), (logs codes c, (logs moved m, (marks-pass, (aims-pass, tt))))),
                 ),
               ),
             ),
@@ -100,29 +97,37 @@ module _ {s : ℕ} {w m a w₂ m₂ a₂ codes moved : List ℕ} (b : Board s w 
   good : Good Concentrate s m (ranks s m)
   good = ranks-good s (b .side) m long (b .marked)
 
-  few : movesOf s ≤ 51
+  few : totalMoves s ≤ 51
   few = omega (arith, side-known s (b .side) .most)
 
-  ranked : {r : Answer} {a′ codes′ : List ℕ} → Ranked s m a codes r a′ codes′ → (a′ ≡ ranks s m) × (length codes′ ≡ 51)
-  ranked {r} {a′} {codes′} k =
-      let e = k .answer ∙ rank-accepts s (b .side) m long (b .marked) (length a) (length codes) (accepted (electronic (prefixSumRuns s)) (swaps (prefixSumRuns s))) (b .sized .aims) (omega (arith, b .codes-room)) in
-      let f : codes′ ≡ sets codes 0 (codesOf (prefixSumRuns s)) = k .codes-are ∙ rw e in
-      (k .aims-are ∙ rw e, ap length f ∙ length-sets codes 0 (codesOf (prefixSumRuns s)) ∙ b .codes-room)
+  rank-takes : {r : Answer} → r ≡ verdict (rankCases s m (length a) (length codes)) (acceptedBy (prefixSumRuns s)) → r .number ≡ 0
+  rank-takes e =
+      ap (λ (x : Answer). x .number) (e ∙ rank-accepts s (b .side) m long (b .marked) (length a) (length codes) (acceptedBy (prefixSumRuns s)) (b .sized .aims) (omega (arith, b .codes-room)))
 
-  ran : {codes′ : List ℕ} → length codes′ ≡ 51 → {r : Answer} {w′ m′ a′ w₂′ m₂′ a₂′ codes″ moved″ : List ℕ}
-      → FullRun Concentrate s w m (ranks s m) w₂ m₂ a₂ w′ m′ a′ w₂′ m₂′ a₂′ codes′ codes″ moved moved″ r → Settled s w m w′ codes″ moved″
-  ran {codes′} c {r} {w′} {m′} {a′} {w₂′} {m₂′} {a₂′} {codes″} {moved″} z =
-      let e = z .answer
-      ∙ concentrate-accepts s (b .side) m long (b .marked) (length w) (length (ranks s m)) (length w₂) (length m₂) (length a₂) (length codes′) (length moved) (acceptedBy (concentrateRuns s))
-      (b .sized .words) (length-entries (aimIn m) 0 (cells s)) (b .sized .words2) (b .sized .marks2) (b .sized .aims2) (omega arith) (omega (arith, b .moved-room)) in
-      let n : r .number ≡ 0 = ap (λ (x : Answer). x .number) e in
-      let p = z .accepted n in
+  concentrate-takes : (codes′ : List ℕ) {r : Answer} → length codes′ ≡ 51
+      → r ≡ verdict (fullCases Concentrate s (sizesOf w w₂ m₂ a₂) m (ranks s m) (length codes′) (length moved)) (acceptedBy (concentrateRuns s)) → r .number ≡ 0
+  concentrate-takes codes′ c e =
+      let n = length codes′ in
+      ap (λ (x : Answer). x .number)
+      (e ∙ concentrate-accepts s (b .side) m long (b .marked) w a w₂ m₂ a₂ n (length moved) (acceptedBy (concentrateRuns s)) (b .sized) (omega arith) (omega (arith, b .moved-room)))
+
+  -- a log keeps its length
+  log-long : (numbers log : List ℕ) → length numbers ≤ length log → length (inFront numbers log) ≡ length log
+  log-long numbers log h = rw (length-append, length-drop) (omega arith)
+
+  pub settled : {r₁ r₂ : Answer} {K₁ K₂ : Type 0} {a′ codes′ w′ codes″ moved″ : List ℕ} {T : ℕ → Cell}
+      → Entry (rankCases s m (length a) (length codes)) (prefixSumRuns s) (a′ ≡ ranks s m) (codes′ ≡ inFront (codesOf (prefixSumRuns s)) codes) K₁ r₁
+      → Entry (fullCases Concentrate s (sizesOf w w₂ m₂ a₂) m a′ (length codes′) (length moved)) (concentrateRuns s) (Stood Concentrate s (totalMoves s) w m a′ T)
+      ((codes″ ≡ inFront (codesOf (concentrateRuns s)) codes′) × (moved″ ≡ inFront (movedCounts Concentrate s (totalMoves s) m a′) moved)) K₂ r₂
+      → ((r : ℕ) → getD w′ r 0 ≡ T r .front .word) → Settled s w m w′ codes″ moved″
+  settled {r₁} {r₂} {K₁} {K₂} {a′} {codes′} z₁ z₂ words =
+      let ranked = rank-takes (z₁ .answer) in
+      let room : length (codesOf (prefixSumRuns s)) ≤ length codes = omega (arith, codes-length (prefixSumRuns s), prefix-sum-length s, few, b .codes-room) in
+      let c : length codes′ ≡ 51 = ap length (z₁ .logs ranked) ∙ log-long (codesOf (prefixSumRuns s)) codes room ∙ b .codes-room in
+      let z = rw (z₁ .lanes ranked) at z₂ in
+      let n = concentrate-takes codes′ c (z .answer) in
       record {
-        coded = ap (take (movesOf s)) (z .coded n) ∙ front-of codes′ (codesOf (concentrateRuns s)) (movesOf s) (length-map (moves (concentrateRuns s)) codeOf ∙ concentrate-length s) (omega (arith, few));
-        counted = ap (take (movesOf s)) (p .counted) ∙ front-of moved (movedCounts Concentrate s (movesOf s) m []) (movesOf s) (length-entries _ 0 (movesOf s)) (omega (arith, few, b .moved-room));
-        worded = word-there s (side-known s (b .side) .least) w m (ranks s m) long good w′ m′ a′ w₂′ m₂′ a₂′ (p .stood);
+        coded = ap (take (totalMoves s)) (z .logs n .0) ∙ take-at (codesOf (concentrateRuns s)) _ (totalMoves s) (codes-length (concentrateRuns s) ∙ concentrate-length s);
+        counted = ap (take (totalMoves s)) (z .logs n .1) ∙ take-at (movedCounts Concentrate s (totalMoves s) m []) _ (totalMoves s) (length-entries _ 0 (totalMoves s));
+        worded = λ r h u. words r ∙ word-there s (side-known s (b .side) .least) w m (ranks s m) long good (z .lanes n) r h u;
       }
-
-  pub settled : {r₁ : Answer} {a′ codes′ : List ℕ} → Ranked s m a codes r₁ a′ codes′ → {r₂ : Answer} {w′ m′ a″ w₂′ m₂′ a₂′ codes″ moved″ : List ℕ}
-      → FullRun Concentrate s w m a′ w₂ m₂ a₂ w′ m′ a″ w₂′ m₂′ a₂′ codes′ codes″ moved moved″ r₂ → Settled s w m w′ codes″ moved″
-  settled k z = ran (ranked k .1) (rw (ranked k .0) at z)

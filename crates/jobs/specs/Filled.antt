@@ -1,8 +1,9 @@
 -- What the program's functions leave in the buffer that is lent to them.
-use Prim.Native.Nat.{ℕ, _+_, _-_, _*_}
+use Prim.Native.Nat.{ℕ}
 use mathlib.Core.Path.{_≡_}
 use mathlib.Core.List.{List, [], _++_}
 use lib.ListN.{length, take, drop}
+use Rattle.lists.specs.Lists.{totalMoves}
 use Rattle.jobtext.specs.declared.Job.{Job}
 use Rattle.jobtext.specs.declared.Job.the-variants.{Ready, Refused}
 use Rattle.answertext.specs.Answers.{answerText, refusedText}
@@ -17,10 +18,6 @@ unfoldable pub refusalOf : Job → List ℕ
 refusalOf (Refused n p) = refusedText n p
 refusalOf (Ready s m) = []
 
--- how many moves concentrate has
-abbrev pub movesOf : ℕ → ℕ
-movesOf s = 7 * (s - 1) + 2
-
 -- the answer that the logs and the words lane of a board give, with so many records
 abbrev pub printedOf : ℕ → ℕ → List ℕ → List ℕ → List ℕ → List ℕ
-printedOf s marked codes moved words = answerText (take (movesOf s) codes) (take (movesOf s) moved) (take marked words)
+printedOf s marked codes moved words = answerText (take (totalMoves s) codes) (take (totalMoves s) moved) (take marked words)

@@ -8,11 +8,10 @@ use Rattle.laws.specs.Tables.{entries}
 use Rattle.array.specs.Cells.{isSide, cells}
 use Rattle.logs.specs.Runs.{codes as codesOf}
 use Rattle.lists.specs.declared.Trip.the-variants.{Concentrate}
-use Rattle.lists.specs.Lists.{concentrateRuns}
+use Rattle.lists.specs.Lists.{totalMoves, concentrateRuns}
 use Rattle.slots.specs.Cells.{Sized}
 use Rattle.records.specs.Records.{markedCell, countIn, movedCounts}
 use Rattle.answertext.specs.Answers.{answerText}
-use Rattle.jobs.specs.Filled.{movesOf}
 
 -- six lanes of a board, with marks that are marks, and logs that are long enough for every side
 pub record Board (s : ℕ) (w m a w₂ m₂ a₂ codes moved : List ℕ) : Type 0 where
@@ -24,8 +23,8 @@ pub record Board (s : ℕ) (w m a w₂ m₂ a₂ codes moved : List ℕ) : Type 
 
 -- lanes that were ranked and concentrated: the logs of concentrate, and the word of the marked cell of rank r in cell r
 pub record Settled (s : ℕ) (w m w′ codes′ moved′ : List ℕ) : Type 0 where
-  pub coded : take (movesOf s) codes′ ≡ codesOf (concentrateRuns s)
-  pub counted : take (movesOf s) moved′ ≡ movedCounts Concentrate s (movesOf s) m []
+  pub coded : take (totalMoves s) codes′ ≡ codesOf (concentrateRuns s)
+  pub counted : take (totalMoves s) moved′ ≡ movedCounts Concentrate s (totalMoves s) m []
   pub worded : (r : ℕ) → r < countIn s m → r < cells s → getD w′ r 0 ≡ getD w (markedCell m (cells s) r) 0
 
 -- a board's words and marks, with so many marked cells
@@ -40,4 +39,4 @@ pub record Lanes (s marked : ℕ) (w m : List ℕ) : Type 0 where
 -- the answer to them: concentrate's moves and moved counts, and the words in the order of the ranks
 unfoldable pub lanesText : ℕ → ℕ → List ℕ → List ℕ → List ℕ
 lanesText s marked w m =
-    answerText (codesOf (concentrateRuns s)) (movedCounts Concentrate s (movesOf s) m []) (entries (λ r. getD w (markedCell m (cells s) r) 0) 0 marked)
+    answerText (codesOf (concentrateRuns s)) (movedCounts Concentrate s (totalMoves s) m []) (entries (λ r. getD w (markedCell m (cells s) r) 0) 0 marked)

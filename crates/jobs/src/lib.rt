@@ -3,12 +3,14 @@ use answertext::answer;
 use answertext::refusal;
 use jobtext::Job;
 use jobtext::read;
+use lists::total_moves;
 use ranking::rank;
-use records::entries::concentrate;
+use records::concentrate;
 ghost use mathlib.Core.Path.{_≡_};
 ghost use mathlib.Core.Bool.{true};
 ghost use Prim.Native.Nat.{ℕ, _<_, _≤_};
 ghost use lib.ListN.{length, getD};
+ghost use Rattle.laws.specs.Lent.{old, new};
 ghost use Rattle.array.specs.Cells.{isSide, cells};
 ghost use Rattle.jobtext.specs.Verdicts.{verdict};
 ghost use Rattle.jobs.specs.Outputs.{outputOf};
@@ -17,7 +19,7 @@ ghost use Rattle.jobs.specs.Inside.{Board, Settled, Lanes, lanesText};
 
 // The line of a refused job: nothing where the job is one.
 fn refuse(out: &mut [u8; 196608], job: Job) -> usize
-    ensures { λ r. ⌜ Filled (now (out .entry)) (refusalOf job) r (now (out .exit)) ⌝ }
+    ensures { λ r. ⌜ Filled (old out) (refusalOf job) r (new out) ⌝ }
 {
     match job {
         Job::Refused(number, place) => refusal(out, number, place),
@@ -34,12 +36,12 @@ fn print(
     moved: &[u16],
     words: &[u32],
 ) -> usize
-    requires { ⌜ (1 ≤ side) × (side ≤ 8) ⌝ }
+    requires { ⌜ isSide side ≡ true ⌝ }
     requires { ⌜ marked ≤ 4096 ⌝ }
     requires { ⌜ (length (now codes) ≡ 51) × (length (now moved) ≡ 51) × (marked ≤ length (now words)) ⌝ }
-    ensures { λ r. ⌜ Filled (now (out .entry)) (printedOf side marked (now (codes .entry)) (now (moved .entry)) (now (words .entry))) r (now (out .exit)) ⌝ }
+    ensures { λ r. ⌜ Filled (old out) (printedOf side marked (old codes) (old moved) (old words)) r (new out) ⌝ }
 {
-    let moves = 7 * (side - 1) + 2;
+    let moves = total_moves(side);
     answer(out, &codes[..moves], &moved[..moves], &words[..marked])
 }
 
@@ -56,7 +58,7 @@ fn settle(
     moved: &mut [u16],
 )
     requires { ⌜ Board side (now words) (now marks) (now aims) (now «spare_words») (now «spare_marks») (now «spare_aims») (now codes) (now moved) ⌝ }
-    ensures { λ _. ⌜ Settled side (now (words .entry)) (now (marks .entry)) (now (words .exit)) (now (codes .exit)) (now (moved .exit)) ⌝ }
+    ensures { λ _. ⌜ Settled side (old words) (old marks) (new words) (new codes) (new moved) ⌝ }
 {
     rank(side, marks, aims, codes);
     concentrate(
@@ -84,7 +86,7 @@ fn settle_lanes(
     requires { ⌜ (length (now words) ≡ cells side) × (length (now marks) ≡ cells side) ⌝ }
     requires { ⌜ ((k : ℕ) → k < length (now marks) → getD (now marks) k 0 < 2) ⌝ }
     requires { ⌜ (length (now codes) ≡ 51) × (length (now moved) ≡ 51) ⌝ }
-    ensures { λ _. ⌜ Settled side (now (words .entry)) (now (marks .entry)) (now (words .exit)) (now (codes .exit)) (now (moved .exit)) ⌝ }
+    ensures { λ _. ⌜ Settled side (old words) (old marks) (new words) (new codes) (new moved) ⌝ }
 {
     let n = words.len();
     let mut aims = [0u16; 4096];
@@ -113,7 +115,7 @@ fn solve(
     marks: &mut [u8],
 ) -> usize
     requires { ⌜ Lanes side marked (now words) (now marks) ⌝ }
-    ensures { λ r. ⌜ Filled (now (out .entry)) (lanesText side marked (now (words .entry)) (now (marks .entry))) r (now (out .exit)) ⌝ }
+    ensures { λ r. ⌜ Filled (old out) (lanesText side marked (old words) (old marks)) r (new out) ⌝ }
 {
     let mut codes = [0u8; 51];
     let mut moved = [0u16; 51];
@@ -123,7 +125,7 @@ fn solve(
 
 // All that the program does with its input.
 pub fn run(text: &[u8], out: &mut [u8; 196608]) -> usize
-    ensures { λ r. ⌜ Filled (now (out .entry)) (outputOf (verdict (now (text .entry)))) r (now (out .exit)) ⌝ }
+    ensures { λ r. ⌜ Filled (old out) (outputOf (verdict (old text))) r (new out) ⌝ }
 {
     let mut words = [0u32; 4096];
     let mut marks = [0u8; 4096];

@@ -1,13 +1,18 @@
 -- How many moves each list has, electronic and by light, for every side.
-use Prim.Native.Nat.{ℕ, _+_, _-_, _*_, _<_}
+use Prim.Native.Nat.{ℕ, _-_, _*_, _<_}
 use mathlib.Core.Path.{_≡_, refl}
+use mathlib.Core.Bool.{true, cond}
 use native.Mathlib.Omega.{arith}
 use lib.ListN.{length}
-use Rattle.array.specs.Cells.{cells, group, place}
+use Rattle.array.specs.Cells.{isSide, cells, group, place}
 use Rattle.logs.specs.Runs.{moves, electronic, swaps}
 use Rattle.logs.proofs.Lengths.{length-moves}
-use Rattle.lists.specs.Lists.{broadcastList, dataSumRuns, prefixSumRuns, concentrateRuns, distributeRuns}
+use Rattle.lists.specs.Lists.{totalMoves, broadcastList, dataSumRuns, prefixSumRuns, concentrateRuns, distributeRuns}
 use Rattle.array.proofs.Board.{row-in, column-in, place-in, group-in}
+
+-- what the code counts on a board
+pub total-on-board : (s n : ℕ) → isSide s ≡ true → n ≡ cond (isSide s) (totalMoves s) 0 → n ≡ totalMoves s
+total-on-board s n h e = rw h at e
 
 module _ (s : ℕ) where
   pub data-sum-electronic : electronic (dataSumRuns s) ≡ 8 * (s - 1)
@@ -23,7 +28,7 @@ module _ (s : ℕ) where
   pub prefix-sum-swaps : swaps (prefixSumRuns s) ≡ 2
   prefix-sum-swaps = refl
 
-  pub prefix-sum-length : length (moves (prefixSumRuns s)) ≡ 7 * (s - 1) + 2
+  pub prefix-sum-length : length (moves (prefixSumRuns s)) ≡ totalMoves s
   prefix-sum-length = omega (arith, length-moves (prefixSumRuns s), prefix-sum-electronic)
 
   pub concentrate-electronic : electronic (concentrateRuns s) ≡ 7 * (s - 1)
@@ -32,7 +37,7 @@ module _ (s : ℕ) where
   pub concentrate-swaps : swaps (concentrateRuns s) ≡ 2
   concentrate-swaps = refl
 
-  pub concentrate-length : length (moves (concentrateRuns s)) ≡ 7 * (s - 1) + 2
+  pub concentrate-length : length (moves (concentrateRuns s)) ≡ totalMoves s
   concentrate-length = omega (arith, length-moves (concentrateRuns s), concentrate-electronic)
 
   pub distribute-electronic : electronic (distributeRuns s) ≡ 7 * (s - 1)
@@ -41,7 +46,7 @@ module _ (s : ℕ) where
   pub distribute-swaps : swaps (distributeRuns s) ≡ 2
   distribute-swaps = refl
 
-  pub distribute-length : length (moves (distributeRuns s)) ≡ 7 * (s - 1) + 2
+  pub distribute-length : length (moves (distributeRuns s)) ≡ totalMoves s
   distribute-length = omega (arith, length-moves (distributeRuns s), distribute-electronic)
 
 -- broadcast, from any cell

@@ -1,5 +1,5 @@
 -- The move list of each operation but the shifts, in nine runs; a shorter list has runs of no moves.
-use Prim.Native.Nat.{ℕ, _-_}
+use Prim.Native.Nat.{ℕ, _+_, _-_, _*_}
 use mathlib.Core.Bool.{cond}
 use mathlib.Core.List.{List, [], _∷_, _++_, map}
 use Rattle.array.specs.declared.moves.Way.the-variants.{Right, Left, Up, Down}
@@ -9,6 +9,10 @@ use Rattle.lists.specs.declared.Trip.the-variants.{Concentrate, Distribu
 use Rattle.array.specs.Cells.{place, group, row, column, isCell}
 use Rattle.array.specs.Moves.{swap, right, left, up, down}
 use Rattle.logs.specs.Runs.{noRuns, along, swapping, whole}
+
+-- how many moves prefix sum, rank, concentrate and distribute have
+abbrev pub totalMoves : ℕ → ℕ
+totalMoves s = 7 * (s - 1) + 2
 
 -- from place p to its whole group
 abbrev pub spreadRuns : ℕ → ℕ → List Run

@@ -1,24 +1,31 @@
 // The move list of each operation, in nine runs; a shorter list has runs of no moves.
 use array::cells::is_cell;
+use array::cells::is_side;
 use array::moves::DOWN;
 use array::moves::LEFT;
 use array::moves::Move;
 use array::moves::RIGHT;
 use array::moves::SWAP;
 use array::moves::UP;
+use laws::over;
 use logs::Run;
 use logs::no_runs;
 ghost use mathlib.Core.Path.{_≡_};
+ghost use mathlib.Core.Bool.{cond};
 ghost use mathlib.Core.List.{map};
 ghost use Prim.Native.Nat.{_-_, _<_, _≤_};
 ghost use Rattle.logs.specs.Runs.{whole as wholeOf};
-ghost use Rattle.array.specs.Cells.{groups as groupsOf};
-ghost use Rattle.lists.specs.Lists.{spreadRuns, broadcastRuns, dataSumRuns, prefixSumRuns, concentrateRuns, distributeRuns, runsOf};
+ghost use Rattle.array.specs.Cells.{isSide, groups as groupsOf};
+ghost use Rattle.lists.specs.Lists.{totalMoves, spreadRuns, broadcastRuns, dataSumRuns, prefixSumRuns, concentrateRuns, distributeRuns, runsOf};
 
-fn one_less(side: usize) -> usize
-    ensures { λ r. ⌜ r ≡ side - 1 ⌝ }
+// How many moves prefix sum, rank, concentrate and distribute have on a board, and 0 where no board has the side.
+pub fn total_moves(side: usize) -> usize
+    ensures { λ r. ⌜ r ≡ cond (isSide side) (totalMoves side) 0 ⌝ }
 {
-    if side < 1 { 0 } else { side - 1 }
+    if !is_side(side) {
+        return 0;
+    }
+    7 * (side - 1) + 2
 }
 
 // A run the whole way: n electronic moves, or one swap.
@@ -37,15 +44,16 @@ fn whole(n: usize, step: Move) -> Run
     }
 }
 
-// A list whose runs go the whole way, n electronic moves each, with its swaps made once.
-fn whole_runs(n: usize, steps: [Move; 9]) -> [Run; 9]
-    ensures { λ r. ⌜ r ≡ map (wholeOf n) steps ⌝ }
+// A list whose runs go the whole way, with its swaps made once.
+fn whole_runs(side: usize, steps: [Move; 9]) -> [Run; 9]
+    ensures { λ r. ⌜ r ≡ map (wholeOf (side - 1)) steps ⌝ }
 {
+    let last = over(side, 1);
     let mut runs = no_runs();
     let mut q: usize = 0;
     while q < 9 {
         let step = steps[q];
-        runs[q] = whole(n, step);
+        runs[q] = whole(last, step);
         q += 1;
     }
     runs
@@ -54,38 +62,26 @@ fn whole_runs(n: usize, steps: [Move; 9]) -> [Run; 9]
 pub fn data_sum_runs(side: usize) -> [Run; 9]
     ensures { λ r. ⌜ r ≡ dataSumRuns side ⌝ }
 {
-    whole_runs(
-        one_less(side),
-        [RIGHT, LEFT, DOWN, UP, SWAP, RIGHT, LEFT, DOWN, UP],
-    )
+    whole_runs(side, [RIGHT, LEFT, DOWN, UP, SWAP, RIGHT, LEFT, DOWN, UP])
 }
 
 // Of prefix sum and of rank.
 pub fn prefix_sum_runs(side: usize) -> [Run; 9]
     ensures { λ r. ⌜ r ≡ prefixSumRuns side ⌝ }
 {
-    whole_runs(
-        one_less(side),
-        [RIGHT, DOWN, SWAP, RIGHT, DOWN, LEFT, SWAP, UP, LEFT],
-    )
+    whole_runs(side, [RIGHT, DOWN, SWAP, RIGHT, DOWN, LEFT, SWAP, UP, LEFT])
 }
 
 pub fn concentrate_runs(side: usize) -> [Run; 9]
     ensures { λ r. ⌜ r ≡ concentrateRuns side ⌝ }
 {
-    whole_runs(
-        one_less(side),
-        [RIGHT, LEFT, UP, DOWN, SWAP, RIGHT, LEFT, UP, SWAP],
-    )
+    whole_runs(side, [RIGHT, LEFT, UP, DOWN, SWAP, RIGHT, LEFT, UP, SWAP])
 }
 
 pub fn distribute_runs(side: usize) -> [Run; 9]
     ensures { λ r. ⌜ r ≡ distributeRuns side ⌝ }
 {
-    whole_runs(
-        one_less(side),
-        [SWAP, DOWN, RIGHT, LEFT, SWAP, UP, DOWN, RIGHT, LEFT],
-    )
+    whole_runs(side, [SWAP, DOWN, RIGHT, LEFT, SWAP, UP, DOWN, RIGHT, LEFT])
 }
 
 // What the records are moved for: to the front, or back to the cells that their aims name.

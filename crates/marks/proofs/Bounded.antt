@@ -8,7 +8,7 @@ use native.Mathlib.Omega.{arith}
 use borrow.Author.Tests.{le-ltb}
 use lib.ListN.{length, getD}
 use Rattle.laws.proofs.Deciding.{same?}
-use Rattle.answers.specs.declared.Case.{Case}
+use Rattle.answers.specs.Answers.{caseOf}
 use Rattle.marks.specs.Marks.{marksCase}
 use Rattle.marks.specs.Inside.{AtMost}
 use Rattle.marks.proofs.Checked.{case-at, passed-from}
@@ -29,5 +29,5 @@ module _ {marks : List ℕ} where
   bounded-end h z = record { each = λ k l. z .each k (omega arith) }
 
   -- where it is a mark, all are
-  pub all-good : {most : ℕ} → most < 2 → AtMost most marks → _≡_ {A = Case} (record { applies = false; number = 5; place = length marks }) (marksCase marks)
+  pub all-good : {most : ℕ} → most < 2 → AtMost most marks → caseOf false 5 (length marks) ≡ marksCase marks
   all-good h z = case-at marks (length marks) false (passed-from 0 marks (λ k l. omega (arith, z .each k l)) ∙ omega arith) (le-ltb (length marks) (length marks) (omega arith))

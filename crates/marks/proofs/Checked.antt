@@ -9,7 +9,7 @@ use lib.Dec.{ltb}
 use lib.ListN.{length, getD, drop, drop-of-length-le}
 use lib.Seq.{drop-cons}
 use borrow.Author.Tests.{lt-ltb, le-ltb, ltb-true, ltb-false}
-use Rattle.answers.specs.declared.Case.{Case}
+use Rattle.answers.specs.Answers.{caseOf}
 use Rattle.marks.specs.Marks.{isMark, firstBad, marksCase}
 
 -- the cells before i are good
@@ -27,15 +27,15 @@ module _ (marks : List ℕ) where
     so-far = z .so-far ∙ ap (firstBad i) (drop-cons marks i 0 h) ∙ rw (lt-ltb (getD marks i 0) 2 g, add-one i);
   }
 
-  pub case-at : (i : ℕ) (t : Bool) → firstBad 0 marks ≡ i → ltb i (length marks) ≡ t → _≡_ {A = Case} (record { applies = t; number = 5; place = i }) (marksCase marks)
+  pub case-at : (i : ℕ) (t : Bool) → firstBad 0 marks ≡ i → ltb i (length marks) ≡ t → caseOf t 5 i ≡ marksCase marks
   case-at i t e h = rw e (rw h)
 
   -- a bad mark, and none
-  pub passed-bad : (i : ℕ) → i < length marks → 2 ≤ getD marks i 0 → Passed marks i → _≡_ {A = Case} (record { applies = true; number = 5; place = i }) (marksCase marks)
+  pub passed-bad : (i : ℕ) → i < length marks → 2 ≤ getD marks i 0 → Passed marks i → caseOf true 5 i ≡ marksCase marks
   passed-bad i h g z =
       case-at i true (z .so-far ∙ ap (firstBad i) (drop-cons marks i 0 h) ∙ rw (le-ltb (getD marks i 0) 2 g)) (lt-ltb i (length marks) h)
 
-  pub passed-all : (i : ℕ) → length marks ≤ i → Passed marks i → _≡_ {A = Case} (record { applies = false; number = 5; place = i }) (marksCase marks)
+  pub passed-all : (i : ℕ) → length marks ≤ i → Passed marks i → caseOf false 5 i ≡ marksCase marks
   passed-all i h z = case-at i false (z .so-far ∙ ap (firstBad i) (drop-of-length-le marks h)) (le-ltb i (length marks) h)
 
 -- where the case does not apply, every mark is 0 or 1

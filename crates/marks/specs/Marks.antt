@@ -6,6 +6,7 @@ use lib.Dec.{ltb}
 use lib.ListN.{length}
 use Rattle.laws.specs.Sums.{sumOf}
 use Rattle.answers.specs.declared.Case.{Case}
+use Rattle.answers.specs.Answers.{caseOf}
 
 abbrev pub isMark : ℕ → Bool
 isMark m = ltb m 2
@@ -17,7 +18,7 @@ firstBad i (m ∷ ms) = cond (isMark m) (firstBad (suc i) ms) i
 
 -- 5: a mark is neither 0 nor 1, at the first such cell
 abbrev pub marksCase : List ℕ → Case
-marksCase marks = record { applies = ltb (firstBad 0 marks) (length marks); number = 5; place = firstBad 0 marks }
+marksCase marks = caseOf (ltb (firstBad 0 marks) (length marks)) 5 (firstBad 0 marks)
 
 -- the rank of cell i: how many cells of smaller index are marked
 abbrev pub rankIn : List ℕ → ℕ → ℕ

@@ -1,7 +1,9 @@
 // The check of the marks, which every entry that reads marks makes.
 use answers::Case;
+use answers::case_of;
 ghost use mathlib.Core.Path.{_≡_};
 ghost use Prim.Native.Nat.{_≤_};
+ghost use Rattle.laws.specs.Lent.{old};
 ghost use Rattle.marks.specs.Marks.{marksCase};
 ghost use Rattle.marks.specs.Inside.{AtMost};
 
@@ -13,7 +15,7 @@ fn greater(a: u8, b: u8) -> u8
 
 // No mark is above it.
 fn greatest(marks: &[u8]) -> u8
-    ensures { λ r. ⌜ AtMost r (now (marks .entry)) ⌝ }
+    ensures { λ r. ⌜ AtMost r (old marks) ⌝ }
 {
     let mut most: u8 = 0;
     let mut i: usize = 0;
@@ -26,36 +28,24 @@ fn greatest(marks: &[u8]) -> u8
 
 // Cell after cell, to the first bad mark.
 fn search(marks: &[u8]) -> Case
-    ensures { λ r. ⌜ r ≡ marksCase (now (marks .entry)) ⌝ }
+    ensures { λ r. ⌜ r ≡ marksCase (old marks) ⌝ }
 {
     let mut i: usize = 0;
     while i < marks.len() {
         if 2 <= marks[i] {
-            return Case {
-                applies: true,
-                number: 5,
-                place: i,
-            };
+            return case_of(true, 5, i);
         }
         i += 1;
     }
-    Case {
-        applies: false,
-        number: 5,
-        place: i,
-    }
+    case_of(false, 5, i)
 }
 
 // The greatest mark is looked for first: for that a processor takes many marks at a time, and for the first bad one it goes mark by mark.
 pub fn marks_case(marks: &[u8]) -> Case
-    ensures { λ r. ⌜ r ≡ marksCase (now (marks .entry)) ⌝ }
+    ensures { λ r. ⌜ r ≡ marksCase (old marks) ⌝ }
 {
     if greatest(marks) < 2 {
-        return Case {
-            applies: false,
-            number: 5,
-            place: marks.len(),
-        };
+        return case_of(false, 5, marks.len());
     }
     search(marks)
 }

@@ -43,7 +43,12 @@ module _ {marks sums : List ℕ} (z : Summed marks sums) (i : ℕ) (h : i < leng
 
 -- the prefix sums of good marks
 summed-marks : (s : ℕ) (marks sums : List ℕ) → Marked s marks → sums ≡ cond (isBoard s (length marks)) (prefixSumWords s marks) marks → Summed marks sums
-summed-marks s marks sums z e = record { size = rw (sums-are, length-entries (λ i. sumOf (suc i) marks % 2 ^ 32) 0 (cells s)) (sym (z .size)); few = rw (z .size) (side-known s (z .side) .cells-few); good = z .good; sums-are = each }
+summed-marks s marks sums z e = record {
+  size = rw (sums-are, length-entries (λ i. sumOf (suc i) marks % 2 ^ 32) 0 (cells s)) (sym (z .size));
+  few = rw (z .size) (side-known s (z .side) .cells-few);
+  good = z .good;
+  sums-are = each;
+}
   where
     board : isBoard s (length marks) ≡ true
     board = rw (z .side) (eq-eqb (length marks) (cells s) (z .size))

@@ -4,7 +4,7 @@ use answers::accepted_by;
 use answers::lane_case;
 use answers::log_case;
 use answers::refusing;
-use answers::side_case;
+use answers::refusing_lane;
 use lists::prefix_sum_runs;
 use logs::write_codes;
 use marks::marks_case;
@@ -13,10 +13,13 @@ use prefix::prefix_words;
 ghost use mathlib.Core.Path.{_≡_};
 ghost use Prim.Native.Nat.{_≤_};
 ghost use lib.ListN.{length};
+ghost use Rattle.laws.specs.Lent.{old, new};
 ghost use Rattle.laws.specs.Tables.{entries};
+ghost use Rattle.lists.specs.Lists.{prefixSumRuns};
+ghost use Rattle.answers.specs.Answers.{verdict, acceptedBy};
 ghost use Rattle.ranking.specs.Ranks.{aimIn, aimOf, ranks};
 ghost use Rattle.ranking.specs.Inside.{Summed, Marked};
-ghost use Rattle.ranking.specs.Entries.{rankAnswer, Ranked};
+ghost use Rattle.ranking.specs.Entries.{rankCases, Ranked};
 
 fn wide(mark: u8) -> u32
     ensures { λ r. ⌜ r ≡ mark ⌝ }
@@ -27,7 +30,7 @@ fn wide(mark: u8) -> u32
 // The marks as words.
 fn load(marks: &[u8], sums: &mut [u32])
     requires { ⌜ length (now marks) ≡ length (now sums) ⌝ }
-    ensures { λ _. ⌜ now (sums .exit) ≡ now (marks .entry) ⌝ }
+    ensures { λ _. ⌜ new sums ≡ old marks ⌝ }
 {
     let mut i: usize = 0;
     while i < marks.len() {
@@ -53,7 +56,7 @@ fn aim(mark: u8, sum: u32) -> u16
 fn unload(marks: &[u8], sums: &[u32], aims: &mut [u16])
     requires { ⌜ Summed (now marks) (now sums) ⌝ }
     requires { ⌜ length (now aims) ≡ length (now marks) ⌝ }
-    ensures { λ _. ⌜ now (aims .exit) ≡ entries (aimIn (now (marks .entry))) 0 (length (now (marks .entry))) ⌝ }
+    ensures { λ _. ⌜ new aims ≡ entries (aimIn (old marks)) 0 (length (old marks)) ⌝ }
 {
     let mut i: usize = 0;
     while i < marks.len() {
@@ -69,7 +72,7 @@ fn rank_lanes(side: usize, marks: &[u8], sums: &mut [u32], aims: &mut [u16])
     requires { ⌜ Marked side (now marks) ⌝ }
     requires { ⌜ length (now marks) ≡ length (now sums) ⌝ }
     requires { ⌜ length (now aims) ≡ length (now marks) ⌝ }
-    ensures { λ _. ⌜ now (aims .exit) ≡ ranks side (now (marks .entry)) ⌝ }
+    ensures { λ _. ⌜ new aims ≡ ranks side (old marks) ⌝ }
 {
     load(marks, sums);
     prefix_words(side, sums);
@@ -82,7 +85,7 @@ fn rank_least(side: usize, marks: &[u8], sums: &mut [u32], aims: &mut [u16])
     requires { ⌜ length (now marks) ≡ length (now sums) ⌝ }
     requires { ⌜ length (now aims) ≡ length (now marks) ⌝ }
     requires { ⌜ length (now marks) ≤ 16 ⌝ }
-    ensures { λ _. ⌜ now (aims .exit) ≡ ranks side (now (marks .entry)) ⌝ }
+    ensures { λ _. ⌜ new aims ≡ ranks side (old marks) ⌝ }
 {
     load(marks, sums);
     prefix_least(side, sums);
@@ -94,7 +97,7 @@ fn write_least(side: usize, marks: &[u8], aims: &mut [u16])
     requires { ⌜ Marked side (now marks) ⌝ }
     requires { ⌜ length (now aims) ≡ length (now marks) ⌝ }
     requires { ⌜ length (now marks) ≤ 16 ⌝ }
-    ensures { λ _. ⌜ now (aims .exit) ≡ ranks side (now (marks .entry)) ⌝ }
+    ensures { λ _. ⌜ new aims ≡ ranks side (old marks) ⌝ }
 {
     let mut sums = [0u32; 16];
     let n = marks.len();
@@ -105,7 +108,7 @@ fn write_few(side: usize, marks: &[u8], aims: &mut [u16])
     requires { ⌜ Marked side (now marks) ⌝ }
     requires { ⌜ length (now aims) ≡ length (now marks) ⌝ }
     requires { ⌜ length (now marks) ≤ 256 ⌝ }
-    ensures { λ _. ⌜ now (aims .exit) ≡ ranks side (now (marks .entry)) ⌝ }
+    ensures { λ _. ⌜ new aims ≡ ranks side (old marks) ⌝ }
 {
     let mut sums = [0u32; 256];
     let n = marks.len();
@@ -116,7 +119,7 @@ fn write_many(side: usize, marks: &[u8], aims: &mut [u16])
     requires { ⌜ Marked side (now marks) ⌝ }
     requires { ⌜ length (now aims) ≡ length (now marks) ⌝ }
     requires { ⌜ length (now marks) ≤ 4096 ⌝ }
-    ensures { λ _. ⌜ now (aims .exit) ≡ ranks side (now (marks .entry)) ⌝ }
+    ensures { λ _. ⌜ new aims ≡ ranks side (old marks) ⌝ }
 {
     let mut sums = [0u32; 4096];
     let n = marks.len();
@@ -126,7 +129,7 @@ fn write_many(side: usize, marks: &[u8], aims: &mut [u16])
 fn write_ranks(side: usize, marks: &[u8], aims: &mut [u16])
     requires { ⌜ Marked side (now marks) ⌝ }
     requires { ⌜ length (now aims) ≡ length (now marks) ⌝ }
-    ensures { λ _. ⌜ now (aims .exit) ≡ ranks side (now (marks .entry)) ⌝ }
+    ensures { λ _. ⌜ new aims ≡ ranks side (old marks) ⌝ }
 {
     if marks.len() <= 16 {
         write_least(side, marks, aims);
@@ -137,22 +140,20 @@ fn write_ranks(side: usize, marks: &[u8], aims: &mut [u16])
     }
 }
 
-fn answer_of(side: usize, marks: &[u8], aims: usize, log: usize) -> Answer
-    ensures { λ r. ⌜ r ≡ rankAnswer side (now (marks .entry)) aims log ⌝ }
+fn judge_rank(side: usize, marks: &[u8], aims: usize, log: usize) -> Answer
+    ensures { λ r. ⌜ r ≡ verdict (rankCases side (old marks) aims log) (acceptedBy (prefixSumRuns side)) ⌝ }
 {
     let runs = prefix_sum_runs(side);
-    let marked = refusing(marks_case(marks), accepted_by(runs));
-    let room = refusing(log_case(runs, log), marked);
-    let aimed = refusing(lane_case(side, aims), room);
-    let sized = refusing(lane_case(side, marks.len()), aimed);
-    refusing(side_case(side), sized)
+    let good = refusing(marks_case(marks), accepted_by(runs));
+    let room = refusing(log_case(runs, log), good);
+    refusing_lane(side, marks.len(), refusing(lane_case(side, aims), room))
 }
 
 // Writes each marked cell's rank into its aim, and 0 into every other.
 pub fn rank(side: usize, marks: &[u8], aims: &mut [u16], codes: &mut [u8]) -> Answer
-    ensures { λ r. ⌜ Ranked side (now (marks .entry)) (now (aims .entry)) (now (codes .entry)) r (now (aims .exit)) (now (codes .exit)) ⌝ }
+    ensures { λ r. ⌜ Ranked side marks aims codes r ⌝ }
 {
-    let answer = answer_of(side, marks, aims.len(), codes.len());
+    let answer = judge_rank(side, marks, aims.len(), codes.len());
     if answer.number != 0 {
         return answer;
     }

@@ -16,7 +16,8 @@ use Rattle.course.proofs.Holds.{Holds, hold0, hold1, hold2, same-holds}
 use Rattle.course.proofs.Content.{At}
 use Rattle.course.proofs.Standing.{below, fits}
 use Rattle.marks.specs.Marks.{rankIn}
-use Rattle.refusals.specs.Cases.{totalMoves, Good}
+use Rattle.lists.specs.Lists.{totalMoves}
+use Rattle.refusals.specs.Cases.{Good}
 use Rattle.records.specs.Records.{markedCell, countIn, recordOf, cellOf}
 use Rattle.records.specs.Entries.{Stood}
 use Rattle.refusals.proofs.Aims.{Ranked, Aimed, good-ranked, good-aimed}
@@ -89,8 +90,10 @@ module _ {s : ℕ} (pos : 0 < s) {marks aims marks₂ aims₂ : List ℕ} (long 
         let l₂ : r < countIn s marks₂ = omega (arith, l, as-many) in
         let c : markedCell marks (cells s) r ≡ i = cell-of marks (cells s) i h e in
         let a : getD aims₂ r 0 ≡ i = back r l ∙ c in
-        let w : getD words₂ r 0 ≡ getD words i 0 = same-words r l ∙ ap (λ (x : Cell). x .front .word) (end-alone pos long good words there r l (omega (arith, l₂, aimed .few))) ∙ ap (λ (k : ℕ). getD words k 0) c in
-        ap U (sym a) ∙ distribute-alone pos long₂ good₂ words₂ again r l₂ ∙ ap alone (shown (getD words₂ r 0) (getD marks₂ r 0) (getD aims₂ r 0) w (first-rising s words₂ marks₂ aims₂ aimed .marked r l₂) a)
+        let moved = ap (λ (x : Cell). x .front .word) (end-alone pos long good words there r l (omega (arith, l₂, aimed .few))) in
+        let w : getD words₂ r 0 ≡ getD words i 0 = same-words r l ∙ moved ∙ ap (λ (k : ℕ). getD words k 0) c in
+        let mark = first-rising s words₂ marks₂ aims₂ aimed .marked r l₂ in
+        ap U (sym a) ∙ distribute-alone pos long₂ good₂ words₂ again r l₂ ∙ ap alone (shown (getD words₂ r 0) (getD marks₂ r 0) (getD aims₂ r 0) w mark a)
       where
         shown : (x m y : ℕ) → x ≡ getD words i 0 → m ≡ 1 → y ≡ i → _≡_ {A = Rec} (record { word = x; mark = m; aim = y }) (record { word = getD words i 0; mark = 1; aim = i })
         shown x m y p q t = rw (p, q, t)

@@ -13,29 +13,29 @@ use lib.ListN.{length, getD}
 use Rattle.laws.proofs.Deciding.{apart}
 use Rattle.array.specs.declared.moves.Way.{Way}
 use Rattle.answers.specs.declared.Answer.{Answer}
-use Rattle.answers.specs.Answers.{acceptedBy}
+use Rattle.laws.specs.Lent.{Lent, old}
 use Rattle.array.proofs.Board.{side-known}
 use Rattle.array.specs.Cells.{cells, group}
 use Rattle.logs.specs.Runs.{moves, electronic, swaps}
 use Rattle.lists.specs.declared.Trip.the-variants.{Concentrate, Distribute}
-use Rattle.lists.specs.Lists.{concentrateRuns, runsOf}
+use Rattle.lists.specs.Lists.{totalMoves, concentrateRuns}
 use Rattle.lists.proofs.Counts.{concentrate-electronic, concentrate-swaps, concentrate-length}
 use Rattle.travel.specs.Travel.{toward, heading}
 use Rattle.travel.proofs.Collide.{at-the-end}
 use Rattle.travel.proofs.Range.{same-group, heading<}
 use Rattle.slots.specs.declared.Rec.{Rec}
 use Rattle.slots.specs.declared.Cell.{Cell}
-use Rattle.slots.specs.Cells.{nothing, empty, alone, cellAt}
+use Rattle.slots.specs.Cells.{nothing, empty, alone}
+use Rattle.slots.specs.Lanes.{cellsAfter}
 use Rattle.course.specs.Showing.{contentOf, Shows}
 use Rattle.course.proofs.Holds.{Holds, hold0, hold1, hold2, holds-one}
 use Rattle.course.proofs.Content.{Rising, Fits, At, content-holds}
 use Rattle.course.proofs.Course.{shows-same}
 use Rattle.course.proofs.Standing.{below, fits}
 use Rattle.marks.specs.Marks.{rankIn}
-use Rattle.refusals.specs.Cases.{totalMoves, Good}
+use Rattle.refusals.specs.Cases.{Good}
 use Rattle.records.specs.Records.{markedCell, countIn, recordOf, cellOf}
-use Rattle.refusals.specs.Cuts.{firstRuns}
-use Rattle.records.specs.Entries.{Stood, FullRun, CutRun}
+use Rattle.records.specs.Entries.{Stood, sizesOf, FullRun, CutRun}
 use Rattle.refusals.proofs.Verdicting.{FullKnown, full-known, cut-known}
 use Rattle.refusals.proofs.Aims.{Ranked, Aimed, good-ranked, good-aimed}
 use Rattle.records.proofs.Marked.{start-rises, start-inside, start-aims, start-rising, cell-of, rank-past, Found, found, first-rising, aims-rise, fits-alone}
@@ -172,7 +172,8 @@ module _ {s : ℕ} (pos : 0 < s) {marks aims : List ℕ} (long : length marks �
       (below s (countIn s marks) pos (markedCell marks (cells s)) (start-rises s words marks aims ranked) (start-inside s words marks aims ranked) n) o
 
   -- never three in a cell
-  pub two-at-most : (n i j k : ℕ) → i < j → j < k → k < countIn s marks → cellOf Concentrate s marks aims n i ≡ cellOf Concentrate s marks aims n j → cellOf Concentrate s marks aims n j ≡ cellOf Concentrate s marks aims n k → ⊥
+  pub two-at-most : (n i j k : ℕ) → i < j → j < k → k < countIn s marks → cellOf Concentrate s marks aims n i ≡ cellOf Concentrate s marks aims n j
+      → cellOf Concentrate s marks aims n j ≡ cellOf Concentrate s marks aims n k → ⊥
   two-at-most n = fits s (countIn s marks) pos (markedCell marks (cells s)) (start-rises s words marks aims ranked) (start-inside s words marks aims ranked) n
 
   -- at the end the record of rank r stands by itself in cell r, and all else is empty
@@ -220,19 +221,19 @@ module _ {s : ℕ} (pos : 0 < s) {marks aims : List ℕ} (long : length marks �
   distribute-empty o j u n = none-at (first-rising s words marks aims aimed) (aims-rise s words marks aims aimed) (arrived o) j u n
 
 -- the same of what the entries promise: of the lanes of an accepted run, whole or up to a cut
-module _ {s : ℕ} {w m a w₂ m₂ a₂ w′ m′ a′ w₂′ m₂′ a₂′ : List ℕ} {r : Answer} where
-  pub cut-records : {cut : ℕ} → CutRun Concentrate s cut w m a w₂ m₂ a₂ w′ m′ a′ w₂′ m₂′ a₂′ r → r .number ≡ 0
-      → Present s (countIn s m) (recordOf Concentrate s w m a) (cellOf Concentrate s m a cut) (cellAt w′ m′ a′ w₂′ m₂′ a₂′)
-  cut-records {cut} z h =
-      let k = cut-known Concentrate s cut (length w) (length m) (length a) (length w₂) (length m₂) (length a₂) m a (acceptedBy (firstRuns cut (runsOf Concentrate s))) (z .answer) h in
-      present-after (side-known s (k .fits .side) .least) (k .fits .marks) (k .good) w cut (z .accepted h)
+module _ (s : ℕ) (w m a w₂ m₂ a₂ : Lent) {r : Answer} where
+  pub cut-records : (cut : ℕ) → CutRun Concentrate s cut w m a w₂ m₂ a₂ r → r .number ≡ 0
+      → Present s (countIn s (old m)) (recordOf Concentrate s (old w) (old m) (old a)) (cellOf Concentrate s (old m) (old a) cut) (cellsAfter w m a w₂ m₂ a₂)
+  cut-records cut z h =
+      let k = cut-known Concentrate s cut (sizesOf (old w) (old w₂) (old m₂) (old a₂)) (old m) (old a) (z .answer) h in
+      present-after (side-known s (k .fits .side) .least) (k .fits .marks) (k .good) (old w) cut (z .lanes h)
 
-  module _ {codes codes′ moved moved′ : List ℕ} (z : FullRun Concentrate s w m a w₂ m₂ a₂ w′ m′ a′ w₂′ m₂′ a₂′ codes codes′ moved moved′ r) (h : r .number ≡ 0) where
-    known : FullKnown Concentrate s (length w) (length m) (length a) (length w₂) (length m₂) (length a₂) m a
-    known = full-known Concentrate s (length w) (length m) (length a) (length w₂) (length m₂) (length a₂) (length codes) (length moved) m a (acceptedBy (runsOf Concentrate s)) (z .answer) h
+  module _ (codes moved : Lent) (z : FullRun Concentrate s w m a w₂ m₂ a₂ codes moved r) (h : r .number ≡ 0) where
+    known : FullKnown Concentrate s (sizesOf (old w) (old w₂) (old m₂) (old a₂)) (old m) (old a) (length (old codes)) (length (old moved))
+    known = full-known Concentrate s (sizesOf (old w) (old w₂) (old m₂) (old a₂)) (old m) (old a) (length (old codes)) (length (old moved)) (z .answer) h
 
-    pub full-alone : (k : ℕ) → k < countIn s m → k < cells s → cellAt w′ m′ a′ w₂′ m₂′ a₂′ k ≡ alone (recordOf Concentrate s w m a k)
-    full-alone = end-alone (side-known s (known .fits .side) .least) (known .fits .marks) (known .good) w (z .accepted h .stood)
+    pub full-alone : (k : ℕ) → k < countIn s (old m) → k < cells s → cellsAfter w m a w₂ m₂ a₂ k ≡ alone (recordOf Concentrate s (old w) (old m) (old a) k)
+    full-alone = end-alone (side-known s (known .fits .side) .least) (known .fits .marks) (known .good) (old w) (z .lanes h)
 
-    pub full-empty : (j : ℕ) → j < cells s → countIn s m ≤ j → cellAt w′ m′ a′ w₂′ m₂′ a₂′ j ≡ empty
-    full-empty = end-empty (side-known s (known .fits .side) .least) (known .fits .marks) (known .good) w (z .accepted h .stood)
+    pub full-empty : (j : ℕ) → j < cells s → countIn s (old m) ≤ j → cellsAfter w m a w₂ m₂ a₂ j ≡ empty
+    full-empty = end-empty (side-known s (known .fits .side) .least) (known .fits .marks) (known .good) (old w) (z .lanes h)

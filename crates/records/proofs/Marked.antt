@@ -56,7 +56,8 @@ module _ (marks : List ℕ) where
       here : j ≡ n → cond (eqb (getD marks n 0) 1) (cond (eqb (rankIn marks n) (rankIn marks j)) n (markedCell marks n (rankIn marks j))) (markedCell marks n (rankIn marks j)) ≡ j
       here d = rw (← d) (rw (eq-eqb (getD marks j 0) 1 e, eq-eqb (rankIn marks j) (rankIn marks j) refl))
 
-      before : (j ≡ n → ⊥) → markedCell marks n (rankIn marks j) ≡ j → cond (eqb (getD marks n 0) 1) (cond (eqb (rankIn marks n) (rankIn marks j)) n (markedCell marks n (rankIn marks j))) (markedCell marks n (rankIn marks j)) ≡ j
+      before : (j ≡ n → ⊥) → markedCell marks n (rankIn marks j) ≡ j
+          → cond (eqb (getD marks n 0) 1) (cond (eqb (rankIn marks n) (rankIn marks j)) n (markedCell marks n (rankIn marks j))) (markedCell marks n (rankIn marks j)) ≡ j
       before d ih = rw (ne-eqb (rankIn marks n) (rankIn marks j) (λ f. omega (arith, d, f, rank-past j n (omega (arith, d)) e))) (either (eqb (getD marks n 0) 1) ih)
         where
           either : (a : Bool) {x : ℕ} → x ≡ j → cond a x x ≡ j
@@ -95,7 +96,15 @@ module _ (s : ℕ) (words marks aims : List ℕ) where
     start-rises r h =
         let u = at r (omega arith) in
         let v = at (suc r) h in
-        ⊎-elim (λ l. l) (λ l. absurd (⊎-elim (λ m. omega (arith, rank-past marks (start (suc r)) (start r) m (v .marked), u .rank, v .rank)) (λ m. same-rank r (omega arith) u v) (apart (start (suc r)) (start r)))) (apart (start r) (start (suc r)))
+        ⊎-elim
+        (λ l. l)
+        (λ l.
+        absurd
+        (⊎-elim
+        (λ m. omega (arith, rank-past marks (start (suc r)) (start r) m (v .marked), u .rank, v .rank))
+        (λ m. same-rank r (omega arith) u v)
+        (apart (start (suc r)) (start r))))
+        (apart (start r) (start (suc r)))
       where
         same-rank : (r : ℕ) → start (suc r) ≡ start r → Found marks (cells s) r (start r) → Found marks (cells s) (suc r) (start (suc r)) → ⊥
         same-rank r e u v = omega (arith, ap (rankIn marks) e, u .rank, v .rank)

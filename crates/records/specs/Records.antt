@@ -8,12 +8,13 @@ use Rattle.laws.specs.Tables.{entries}
 use Rattle.array.specs.Cells.{cells}
 use Rattle.lists.specs.declared.Trip.{Trip}
 use Rattle.lists.specs.declared.Trip.the-variants.{Concentrate, Distribute}
+use Rattle.lists.specs.Lists.{totalMoves}
 use Rattle.travel.specs.Travel.{stands}
 use Rattle.slots.specs.declared.Rec.{Rec}
 use Rattle.slots.specs.Cells.{recordIn}
 use Rattle.course.specs.Showing.{changed}
 use Rattle.marks.specs.Marks.{rankIn}
-use Rattle.refusals.specs.Cases.{marked, totalMoves}
+use Rattle.refusals.specs.Cases.{marked}
 
 -- the marked cell of rank r, of the cells below n
 unfoldable pub markedCell : List ℕ → ℕ → ℕ → ℕ

@@ -78,7 +78,11 @@ module _ (s : ℕ) (marks aims : List ℕ) (n : length marks ≡ cells s) (z : G
       (λ l.
       ⊎-elim
       (λ g. omega (arith, stops i e m (omega arith), g, ap (λ (k : ℕ). getD marks k 0) g))
-      (λ g. ⊎-elim (λ f. absurd (omega (arith, right m (omega arith) f .after, stops i e m (omega arith), g))) (λ f. omega (arith, stops i e m (omega arith), small m (omega arith), f)) (same? (getD marks m 0) 1))
+      (λ g.
+      ⊎-elim
+      (λ f. absurd (omega (arith, right m (omega arith) f .after, stops i e m (omega arith), g)))
+      (λ f. omega (arith, stops i e m (omega arith), small m (omega arith), f))
+      (same? (getD marks m 0) 1))
       (same? m i))
       (apart m i)
 

@@ -9,7 +9,7 @@ use borrow.Author.Tests.{lt-ltb, le-ltb}
 use lib.ListN.{length, getD, take, drop, set, length-set, drop-of-length-le}
 use lib.Seq.{drop-cons, take-suc-set, take-all}
 use Rattle.laws.proofs.Searching.{Searching, searching-start, searching-next, searching-found, searching-none}
-use Rattle.answers.specs.declared.Case.{Case}
+use Rattle.answers.specs.Answers.{caseOf}
 use Rattle.logs.specs.declared.Run.{Run}
 use Rattle.lists.specs.declared.Trip.{Trip}
 use Rattle.lists.specs.declared.Trip.the-variants.{Concentrate, Distribute}
@@ -52,12 +52,12 @@ module _ {trip : Trip} {s : ℕ} {marks aims : List ℕ} {rank previous i : ℕ}
   }
 
   pub judging-bad : {b : Bool} → i < length marks → b ≡ badIn trip s i rank (getD marks i 0) (getD aims i 0) previous → b ≡ true
-      → _≡_ {A = Case} (record { applies = true; number = 6; place = i }) (aimsCase trip s marks aims)
+      → caseOf true 6 i ≡ aimsCase trip s marks aims
   judging-bad h e f =
       let x : firstAim trip s marks aims ≡ i = searching-found (badAim trip s marks aims) (length marks) h (sym judged ∙ sym e ∙ f) (z .searching) in
       rw (x, lt-ltb i (length marks) h)
 
-  pub judging-good : length marks ≤ i → _≡_ {A = Case} (record { applies = false; number = 6; place = length marks }) (aimsCase trip s marks aims)
+  pub judging-good : length marks ≤ i → caseOf false 6 (length marks) ≡ aimsCase trip s marks aims
   judging-good h =
       let x : firstAim trip s marks aims ≡ length marks = searching-none (badAim trip s marks aims) (length marks) h (z .searching) in
       rw (x, le-ltb (length marks) (length marks) (omega arith))
@@ -71,21 +71,26 @@ pub record Cutting (cut : ℕ) (runs firsts : List Run) (left q : ℕ) : Type 0 
 pub cutting-start : (cut : ℕ) (runs firsts : List Run) → length firsts ≡ 9 → Cutting cut runs firsts cut 0
 cutting-start cut runs firsts h = record { inside = omega arith; long = h; so-far = refl }
 
-pub cutting-next : {cut : ℕ} {runs firsts : List Run} {left q times : ℕ} (d : Run) → length runs ≡ 9 → q < 9 → times ≡ min left (getD runs q d .times) → Cutting cut runs firsts left q
+pub cutting-next : {cut : ℕ} {runs firsts : List Run} {left q times : ℕ} (d : Run) → length runs ≡ 9 → q < 9
+    → times ≡ min left (getD runs q d .times) → Cutting cut runs firsts left q
     → Cutting cut runs (set firsts q (record { step = getD runs q d .step; times = times })) (left - times) (q + 1)
 cutting-next {cut} {runs} {firsts} {left} {q} {times} d n h e z =
     let v : Run = record { step = getD runs q d .step; times = times } in
     let l : left - times ≡ left - getD runs q d .times = omega arith in
+    let rest = firstRuns (left - getD runs q d .times) (drop (suc q) runs) in
+    let run : ℕ → Run = λ t. record { step = getD runs q d .step; times = t } in
+    let next = sym (ap (firstRuns left) (drop-cons runs q d (omega arith))) in
     record {
       inside = omega arith;
       long = length-set firsts q v ∙ z .long;
-      so-far = rw (add-one q, take-suc-set firsts q v (omega (arith, z .long)), l) (append-assoc (take q firsts) (v ∷ []) (firstRuns (left - getD runs q d .times) (drop (suc q) runs))
-          ∙ ap (λ (x : List Run). take q firsts ++ x) (ap (λ (t : ℕ). record { step = getD runs q d .step; times = t } ∷ firstRuns (left - getD runs q d .times) (drop (suc q) runs)) e ∙ sym (ap (firstRuns left) (drop-cons runs q d (omega arith)))) ∙ z .so-far);
+      so-far = rw (add-one q, take-suc-set firsts q v (omega (arith, z .long)), l)
+          (append-assoc (take q firsts) (v ∷ []) rest ∙ ap (λ (x : List Run). take q firsts ++ x) (ap (λ (t : ℕ). run t ∷ rest) e ∙ next) ∙ z .so-far);
     }
 
 pub cutting-end : {cut : ℕ} {runs firsts : List Run} {left q : ℕ} → length runs ≡ 9 → 9 ≤ q → Cutting cut runs firsts left q → firsts ≡ firstRuns cut runs
 cutting-end {cut} {runs} {firsts} {left} {q} n h z =
-    sym (take-all q firsts (omega (arith, z .long))) ∙ nil (take q firsts) ∙ ap (λ (x : List Run). take q firsts ++ firstRuns left x) (sym (drop-of-length-le runs {i = q} (omega arith))) ∙ z .so-far
+    sym (take-all q firsts (omega (arith, z .long))) ∙ nil (take q firsts)
+    ∙ ap (λ (x : List Run). take q firsts ++ firstRuns left x) (sym (drop-of-length-le runs {i = q} (omega arith))) ∙ z .so-far
   where
     nil : (xs : List Run) → xs ≡ xs ++ []
     nil [] = refl

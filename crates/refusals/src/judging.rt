@@ -1,24 +1,35 @@
 // The checks of concentrate and distribute, and the runs of the moves that a cut run makes.
+use crate::Sizes;
 use answers::Answer;
 use answers::Case;
+use answers::accepted_by;
+use answers::case_of;
 use answers::lane_case;
+use answers::log_case;
 use answers::refusing;
-use answers::side_case;
+use answers::refusing_lane;
 use array::cells::is_cell;
 use array::cells::is_side;
+use laws::least;
 use lists::Trip;
+use lists::runs_of;
+use lists::total_moves;
 use logs::Run;
 use logs::no_runs;
+use marks::marks_case;
 ghost use mathlib.Core.Path.{_≡_};
-ghost use mathlib.Core.Bool.{true, false, _&&_};
-ghost use Prim.Native.Nat.{ℕ, _-_, _<_, _≤_, min};
+ghost use mathlib.Core.Bool.{_&&_};
+ghost use Prim.Native.Nat.{ℕ, _<_, _≤_};
 ghost use lib.Dec.{ltb};
 ghost use lib.ListN.{length, getD};
-ghost use Rattle.answers.specs.Answers.{verdict};
+ghost use Rattle.laws.specs.Lent.{old};
+ghost use Rattle.answers.specs.Answers.{verdict, acceptedBy};
 ghost use Rattle.array.specs.Cells.{isSide};
 ghost use Rattle.lists.specs.declared.Trip.the-variants.{Concentrate, Distribute};
-ghost use Rattle.refusals.specs.Cases.{badIn, aimsCase, totalMoves, cutCase, laneCases};
+ghost use Rattle.lists.specs.Lists.{totalMoves, runsOf};
+ghost use Rattle.refusals.specs.Cases.{badIn, aimsCase, cutCase, laneCases};
 ghost use Rattle.refusals.specs.Cuts.{firstRuns};
+ghost use Rattle.refusals.specs.Inside.{earlyFull, earlyCut};
 
 // What is known of a cell when its aim is judged: its index and rank, its mark and aim, and the aim before it.
 struct Judged {
@@ -78,7 +89,7 @@ fn bad(trip: Trip, side: usize, c: Judged) -> bool
 pub(crate) fn aims_case(trip: Trip, side: usize, marks: &[u8], aims: &[u16]) -> Case
     requires { ⌜ (length (now marks) ≡ length (now aims)) × (length (now marks) ≤ 4096) ⌝ }
     requires { ⌜ ((i : ℕ) → i < length (now marks) → getD (now marks) i 0 < 2) ⌝ }
-    ensures { λ r. ⌜ r ≡ aimsCase trip side (now (marks .entry)) (now (aims .entry)) ⌝ }
+    ensures { λ r. ⌜ r ≡ aimsCase trip side (old marks) (old aims) ⌝ }
 {
     let n = marks.len();
     let mut rank: usize = 0;
@@ -93,72 +104,69 @@ pub(crate) fn aims_case(trip: Trip, side: usize, marks: &[u8], aims: &[u16]) -> 
             previous: previous,
         };
         if bad(trip, side, c) {
-            return Case {
-                applies: true,
-                number: 6,
-                place: i,
-            };
+            return case_of(true, 6, i);
         }
         rank += marks[i] as usize;
         previous = aims[i];
         i += 1;
     }
-    Case {
-        applies: false,
-        number: 6,
-        place: n,
-    }
+    case_of(false, 6, n)
 }
 
 pub(crate) fn cut_case(side: usize, cut: usize) -> Case
     ensures { λ r. ⌜ r ≡ cutCase side cut ⌝ }
 {
-    Case {
-        applies: is_beyond(side, cut),
-        number: 7,
-        place: 0,
-    }
+    case_of(is_beyond(side, cut), 7, 0)
 }
 
 fn is_beyond(side: usize, cut: usize) -> bool
     ensures { λ r. ⌜ r ≡ (isSide side && ltb (totalMoves side) cut) ⌝ }
 {
-    if is_side(side) {
-        return 7 * (side - 1) + 2 < cut;
-    }
-    false
+    is_side(side) && total_moves(side) < cut
 }
 
 // The answer of the cases of the side and of six lanes, or the other.
-pub(crate) fn refusing_lanes(
-    side: usize,
-    words: usize,
-    marks: usize,
-    aims: usize,
-    spare_words: usize,
-    spare_marks: usize,
-    spare_aims: usize,
-    otherwise: Answer,
-) -> Answer
-    ensures { λ r. ⌜ r ≡ verdict (laneCases side words marks aims «spare_words» «spare_marks» «spare_aims») otherwise ⌝ }
+fn refusing_lanes(side: usize, marks: usize, aims: usize, sizes: Sizes, otherwise: Answer) -> Answer
+    ensures { λ r. ⌜ r ≡ verdict (laneCases side marks aims sizes) otherwise ⌝ }
 {
-    let front = refusing(
-        lane_case(side, spare_words),
-        refusing(
-            lane_case(side, spare_marks),
-            refusing(lane_case(side, spare_aims), otherwise),
-        ),
-    );
-    refusing(
-        side_case(side),
-        refusing(
-            lane_case(side, words),
-            refusing(
-                lane_case(side, marks),
-                refusing(lane_case(side, aims), front),
-            ),
-        ),
-    )
+    let spare_aims = refusing(lane_case(side, sizes.spare_aims), otherwise);
+    let spare_marks = refusing(lane_case(side, sizes.spare_marks), spare_aims);
+    let spare_words = refusing(lane_case(side, sizes.spare_words), spare_marks);
+    let aimed = refusing(lane_case(side, aims), spare_words);
+    let marked = refusing(lane_case(side, marks), aimed);
+    refusing_lane(side, sizes.words, marked)
+}
+
+// The cases of a full run before that of the aims.
+pub(crate) fn early_full(
+    trip: Trip,
+    side: usize,
+    sizes: Sizes,
+    marks: &[u8],
+    aims: usize,
+    codes: usize,
+    moved: usize,
+) -> Answer
+    ensures { λ r. ⌜ r ≡ verdict (earlyFull trip side sizes (old marks) aims codes moved) (acceptedBy (runsOf trip side)) ⌝ }
+{
+    let runs = runs_of(trip, side);
+    let good = refusing(marks_case(marks), accepted_by(runs));
+    let room = refusing(log_case(runs, codes), refusing(log_case(runs, moved), good));
+    refusing_lanes(side, marks.len(), aims, sizes, room)
+}
+
+// And of a cut run, whose moves are these.
+pub(crate) fn early_cut(
+    side: usize,
+    runs: [Run; 9],
+    sizes: Sizes,
+    marks: &[u8],
+    aims: usize,
+) -> Answer
+    ensures { λ r. ⌜ r ≡ verdict (earlyCut side sizes (old marks) aims) (acceptedBy runs) ⌝ }
+{
+    let good = refusing(marks_case(marks), accepted_by(runs));
+    refusing_lanes(side, marks.len(), aims, sizes, good)
 }
 
 // The runs of the first moves of a list.
@@ -171,7 +179,7 @@ pub(crate) fn first_runs(runs: [Run; 9], cut: usize) -> [Run; 9]
     while q < 9 {
         let run = runs[q];
         let step = run.step;
-        let times = fewer(left, run.times);
+        let times = least(left, run.times);
         firsts[q] = Run {
             step: step,
             times: times,
@@ -180,10 +188,4 @@ pub(crate) fn first_runs(runs: [Run; 9], cut: usize) -> [Run; 9]
         q += 1;
     }
     firsts
-}
-
-fn fewer(a: usize, b: usize) -> usize
-    ensures { λ r. ⌜ r ≡ min a b ⌝ }
-{
-    if a < b { a } else { b }
 }

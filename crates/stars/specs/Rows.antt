@@ -1,6 +1,7 @@
 -- The row of a bench case, worked out in two ways: by the results that the contracts cite, and by the moves, made one after the other.
 use Prim.Native.Nat.{ℕ, _+_, _-_}
 use mathlib.Core.List.{List, [], _∷_, _++_, map}
+use lib.IntN.{ℤ}
 use lib.ListN.{length, getD}
 use Rattle.laws.specs.Tables.{entries}
 use Rattle.answers.specs.declared.Answer.{Answer}
@@ -9,8 +10,10 @@ use Rattle.array.specs.Cells.{cells}
 use Rattle.logs.specs.Runs.{moves, swapsIn, codes as codesOf}
 use Rattle.lists.specs.declared.Trip.{Trip}
 use Rattle.lists.specs.declared.Trip.the-variants.{Concentrate as concentrate, Distribute as distribute}
-use Rattle.lists.specs.Lists.{dataSumRuns, prefixSumRuns, runsOf}
+use Rattle.lists.specs.Lists.{totalMoves, dataSumRuns, prefixSumRuns, runsOf}
 use Rattle.shifts.specs.Shifts.{distanceOf, shiftRuns}
+use Rattle.shifts.specs.declared.Axis.{Axis}
+use Rattle.shifts.specs.declared.Edge.{Edge}
 use Rattle.answers.specs.Answers.{verdict, acceptedBy}
 use Rattle.lanes.specs.Machine.{load, unload, made, runsOf as programRuns}
 use Rattle.lanes.specs.Stages.{front}
@@ -20,7 +23,7 @@ use Rattle.prefix.specs.Programs.{prefixSum, prefixed}
 use Rattle.prefix.specs.Results.{prefixSumWords}
 use Rattle.slides.specs.Programs.{shift, shiftedBy}
 use Rattle.slides.specs.Results.{shiftWords}
-use Rattle.words.specs.Entries.{dataSumAnswer, prefixSumAnswer, shiftAnswer}
+use Rattle.words.specs.Entries.{sumCases, shiftCases}
 use Rattle.slots.specs.declared.Cell.{Cell}
 use Rattle.slots.specs.Cells.{empty, joined, cellAt}
 use Rattle.mesh.specs.Lines.{reach, leaves, goersOf, stayersOf, landed, laid, goesAt}
@@ -29,7 +32,8 @@ use Rattle.mover.specs.Runs.{swapped, madeOf, after, movedLog}
 use Rattle.course.specs.Showing.{contentOf}
 use Rattle.clearing.specs.Cleared.{kept}
 use Rattle.ranking.specs.Ranks.{ranks}
-use Rattle.refusals.specs.Cases.{totalMoves, fullCases}
+use Rattle.refusals.specs.declared.Sizes.{Sizes}
+use Rattle.refusals.specs.Cases.{fullCases}
 use Rattle.records.specs.Records.{markedCell, countIn, recordOf, cellOf, movedCounts}
 use Rattle.stars.specs.Cases.{Case, Concentrate, Distribute, PrefixSum, DataSum, Shift}
 
@@ -65,9 +69,18 @@ abbrev pub wordsOnly : List ℕ → Lanes
 wordsOnly words = record { words = words; marks = []; aims = []; spareWords = []; spareMarks = []; spareAims = [] }
 
 -- the answer to concentrate, or distribute, with n cells in each spare lane and m entries in each log
+abbrev pub sizes : List ℕ → ℕ → Sizes
+sizes words n = record { words = length words; «spare_words» = n; «spare_marks» = n; «spare_aims» = n }
+
 abbrev pub recordsAnswer : Trip → ℕ → (n m : ℕ) → List ℕ → List ℕ → List ℕ → Answer
-recordsAnswer trip s n m words marks aims =
-    verdict (fullCases trip s (length words) (length marks) (length aims) n n n m m marks aims) (acceptedBy (runsOf trip s))
+recordsAnswer trip s n m words marks aims = verdict (fullCases trip s (sizes words n) marks aims m m) (acceptedBy (runsOf trip s))
+
+-- the answer to a sum with this list, and to a shift, of n words and a log of so many entries
+abbrev pub sumAnswer : ℕ → List Run → ℕ → ℕ → Answer
+sumAnswer s list n log = verdict (sumCases s list n log) (acceptedBy list)
+
+abbrev pub shiftAnswer : ℕ → Axis → Edge → ℤ → ℕ → ℕ → Answer
+shiftAnswer s axis edge k n log = verdict (shiftCases s axis edge k n log) (acceptedBy (shiftRuns s axis edge k))
 
 -- the row of concentrate, or distribute, with its moved counts and what the cells hold after k moves
 abbrev pub recordsRow : Trip → ℕ → List ℕ → List ℕ → List ℕ → List ℕ → (ℕ → ℕ → Cell) → Row
@@ -124,8 +137,8 @@ moving trip s words marks aims = from (cellAt (kept marks words) marks (kept mar
 abbrev pub resultRow : Case → Row
 resultRow (Concentrate s words marks) = standing concentrate s words marks (ranks s marks)
 resultRow (Distribute s words marks aims) = standing distribute s words marks aims
-resultRow (PrefixSum s words) = wordsRow (prefixSumAnswer s (length words)) (prefixSumRuns s) (prefixSumWords s words)
-resultRow (DataSum s words) = wordsRow (dataSumAnswer s (length words)) (dataSumRuns s) (dataSumWords s words)
+resultRow (PrefixSum s words) = wordsRow (sumAnswer s (prefixSumRuns s) (length words)) (prefixSumRuns s) (prefixSumWords s words)
+resultRow (DataSum s words) = wordsRow (sumAnswer s (dataSumRuns s) (length words)) (dataSumRuns s) (dataSumWords s words)
 resultRow (Shift s axis edge k words) =
     wordsRow (shiftAnswer s axis edge k (length words)) (shiftRuns s axis edge k) (shiftWords s axis edge k words)
 
@@ -135,9 +148,9 @@ unfolding front
 movedRow (Concentrate s words marks) = moving concentrate s words marks (ranks s marks)
 movedRow (Distribute s words marks aims) = moving distribute s words marks aims
 movedRow (PrefixSum s words) =
-    wordsRow (prefixSumAnswer s (length words)) (programRuns (prefixSum s)) (unload s (prefixed s (load s words)))
+    wordsRow (sumAnswer s (prefixSumRuns s) (length words)) (programRuns (prefixSum s)) (unload s (prefixed s (load s words)))
 movedRow (DataSum s words) =
-    wordsRow (dataSumAnswer s (length words)) (programRuns (dataSum s)) (unload s (made s (dataSum s) (load s words)))
+    wordsRow (sumAnswer s (dataSumRuns s) (length words)) (programRuns (dataSum s)) (unload s (made s (dataSum s) (load s words)))
 movedRow (Shift s axis edge k words) =
     wordsRow (shiftAnswer s axis edge k (length words)) (programRuns (shift s axis edge (distanceOf k)))
     (unload s (shiftedBy s axis edge (distanceOf k) (load s words)))

@@ -1,13 +1,15 @@
 // A group's own stretch of a lane of words, and the answer of who asks for it.
 use answers::Answer;
 use answers::Case;
-use answers::accepted;
-use answers::lane_case;
+use answers::accepted_by;
+use answers::case_of;
 use answers::refusing;
-use answers::side_case;
+use answers::refusing_lane;
+use logs::no_runs;
 ghost use mathlib.Core.Path.{_≡_};
 ghost use lib.Dec.{ltb};
 ghost use lib.ListN.{length};
+ghost use Rattle.laws.specs.Lent.{old};
 ghost use Rattle.array.specs.Cells.{groups};
 ghost use Rattle.stretches.specs.Stretches.{groupCase, groupAnswer, groupWords};
 
@@ -24,22 +26,16 @@ fn is_group(side: usize, group: usize) -> bool
 fn group_case(side: usize, group: usize) -> Case
     ensures { λ r. ⌜ r ≡ groupCase side group ⌝ }
 {
-    Case {
-        applies: !is_group(side, group),
-        number: 4,
-        place: 0,
-    }
+    case_of(!is_group(side, group), 4, 0)
 }
 
-fn group_answer(side: usize, group: usize, length: usize) -> Answer
+fn judge_group(side: usize, group: usize, length: usize) -> Answer
     ensures { λ r. ⌜ r ≡ groupAnswer side group length ⌝ }
 {
-    refusing(
-        side_case(side),
-        refusing(
-            lane_case(side, length),
-            refusing(group_case(side, group), accepted(0, 0)),
-        ),
+    refusing_lane(
+        side,
+        length,
+        refusing(group_case(side, group), accepted_by(no_runs())),
     )
 }
 
@@ -47,7 +43,7 @@ fn group_answer(side: usize, group: usize, length: usize) -> Answer
 pub fn group_words(side: usize, group: usize, words: &mut [u32]) -> &mut [u32]
     ensures { λ r. ⌜ now r ≡ groupWords side group (now (words .entry)) ⌝ }
 {
-    let answer = group_answer(side, group, words.len());
+    let answer = judge_group(side, group, words.len());
     if answer.number != 0 {
         return &mut words[..0];
     }
@@ -58,7 +54,7 @@ pub fn group_words(side: usize, group: usize, words: &mut [u32]) -> &mut [u32]
 
 // The number and the place of the same.
 pub fn group_words_answer(side: usize, group: usize, words: &[u32]) -> Answer
-    ensures { λ r. ⌜ r ≡ groupAnswer side group (length (now (words .entry))) ⌝ }
+    ensures { λ r. ⌜ r ≡ groupAnswer side group (length (old words)) ⌝ }
 {
-    group_answer(side, group, words.len())
+    judge_group(side, group, words.len())
 }

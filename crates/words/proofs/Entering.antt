@@ -1,44 +1,32 @@
--- Where an entry accepts, the lane holds the result.
+-- Where an entry accepts, the lane holds the result and the log the codes.
 use Prim.Native.Nat.{ℕ}
 use mathlib.Core.Path.{_≡_}
-use mathlib.Core.List.{List}
-use lib.IntN.{ℤ}
+use mathlib.Core.Bool.{true, _&&_}
+use mathlib.Core.List.{List, _∷_}
 use lib.ListN.{length}
 use lib.Seq.{sets}
+use borrow.Author.Tests.{eq-eqb}
 use Rattle.answers.specs.declared.Answer.{Answer}
-use Rattle.shifts.specs.declared.Axis.{Axis}
-use Rattle.shifts.specs.declared.Edge.{Edge}
+use Rattle.answers.specs.declared.Case.{Case}
+use Rattle.logs.specs.declared.Run.{Run}
+use Rattle.array.specs.Cells.{cells}
 use Rattle.logs.specs.Runs.{codes}
-use Rattle.lists.specs.Lists.{broadcastRuns, dataSumRuns, prefixSumRuns}
-use Rattle.shifts.specs.Shifts.{shiftRuns}
-use Rattle.lanes.proofs.Held.{board-is}
-use Rattle.spreads.specs.Results.{broadcastLane, dataSumLane}
-use Rattle.prefix.specs.Results.{prefixSumLane}
-use Rattle.slides.specs.Results.{shiftLane}
-use Rattle.words.specs.Entries.{broadcastAnswer, dataSumAnswer, prefixSumAnswer, shiftAnswer, Broadcast, DataSum, PrefixSum, Shift}
-use Rattle.words.proofs.Answering.{data-sum-room, prefix-sum-room, broadcast-room, shift-room, entry-done}
+use Rattle.answers.specs.Answers.{acceptedBy, verdict, sideCase, laneCase, logCase}
+use Rattle.answers.specs.Entry.{Entry, inFront}
+use Rattle.answers.proofs.Verdicts.{NoneApplies, allRefuse, none-refuses, side-built, lane-whole}
+use Rattle.answers.proofs.Entering.{entry-accepted, logged}
+use Rattle.light.specs.Lane.{isBoard}
 
-module _ (s : ℕ) (words log words′ log′ : List ℕ) (r : Answer) where
-  pub data-sum-done : r ≡ dataSumAnswer s (length words) (length log) → r .number ≡ 0 → words′ ≡ dataSumLane s words
-      → log′ ≡ sets log 0 (codes (dataSumRuns s)) → DataSum s words log r words′ log′
-  data-sum-done e h x c =
-      let k = data-sum-room s (length words) (length log) r e h in
-      entry-done _ _ _ words log r words′ log′ e h (k .room) (rw (board-is s (length words) (k .board)) at x) c
+-- the table of cases of an entry on words, with what it has behind 1, 2 and 3
+abbrev table : ℕ → List Run → List Case → ℕ → ℕ → List Case
+table s list rest n log = sideCase s ∷ laneCase s n ∷ logCase list log ∷ rest
 
-  pub prefix-sum-done : r ≡ prefixSumAnswer s (length words) (length log) → r .number ≡ 0 → words′ ≡ prefixSumLane s words
-      → log′ ≡ sets log 0 (codes (prefixSumRuns s)) → PrefixSum s words log r words′ log′
-  prefix-sum-done e h x c =
-      let k = prefix-sum-room s (length words) (length log) r e h in
-      entry-done _ _ _ words log r words′ log′ e h (k .room) (rw (board-is s (length words) (k .board)) at x) c
-
-  pub broadcast-done : (i : ℕ) → r ≡ broadcastAnswer s i (length words) (length log) → r .number ≡ 0 → words′ ≡ broadcastLane s i words
-      → log′ ≡ sets log 0 (codes (broadcastRuns s i)) → Broadcast s i words log r words′ log′
-  broadcast-done i e h x c =
-      let k = broadcast-room s i (length words) (length log) r e h in
-      entry-done _ _ _ words log r words′ log′ e h (k .known .room) (rw (board-is s (length words) (k .known .board), k .inside) at x) c
-
-  pub shift-done : (axis : Axis) (edge : Edge) (k : ℤ) → r ≡ shiftAnswer s axis edge k (length words) (length log) → r .number ≡ 0
-      → words′ ≡ shiftLane s axis edge k words → log′ ≡ sets log 0 (codes (shiftRuns s axis edge k)) → Shift s axis edge k words log r words′ log′
-  shift-done axis edge k e h x c =
-      let z = shift-room s axis edge k (length words) (length log) r e h in
-      entry-done _ _ _ words log r words′ log′ e h (z .known .room) (rw (board-is s (length words) (z .known .board), z .near) at x) c
+module _ (s : ℕ) (list : List Run) (rest : List Case) (words log result : List ℕ) where
+  pub on-words : {words′ log′ : List ℕ} {runs : List Run} {K : Type 0} {r : Answer} → allRefuse rest ≡ true
+      → r ≡ verdict (table s list rest (length words) (length log)) (acceptedBy list) → r .number ≡ 0
+      → (isBoard s (length words) ≡ true → NoneApplies rest → words′ ≡ result) → runs ≡ list → log′ ≡ sets log 0 (codes runs)
+      → Entry (table s list rest (length words) (length log)) list (words′ ≡ result) (log′ ≡ inFront (codes list) log) K r
+  on-words all e z x f g =
+      let k = none-refuses (table s list rest (length words) (length log)) (acceptedBy list) all e z in
+      let board : isBoard s (length words) ≡ true = rw (side-built s (k .0)) (eq-eqb (length words) (cells s) (lane-whole s (length words) (k .1 .0))) in
+      entry-accepted e z (x board (k .1 .1 .1)) (logged list log (k .1 .1 .0) f g)

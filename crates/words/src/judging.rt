@@ -2,68 +2,56 @@
 use answers::Answer;
 use answers::Case;
 use answers::accepted_by;
-use answers::checked;
+use answers::case_of;
+use answers::log_case;
 use answers::refusing;
+use answers::refusing_lane;
 use array::cells::is_cell;
 use lists::broadcast_runs;
-use lists::data_sum_runs;
-use lists::prefix_sum_runs;
+use logs::Run;
 use shifts::Axis;
 use shifts::Edge;
 use shifts::distance_of;
 use shifts::is_within;
 use shifts::shift_runs;
 ghost use mathlib.Core.Path.{_≡_};
-ghost use Rattle.words.specs.Entries.{cellCase, distanceCase, broadcastAnswer, dataSumAnswer, prefixSumAnswer, shiftAnswer};
+ghost use Rattle.lists.specs.Lists.{broadcastRuns};
+ghost use Rattle.shifts.specs.Shifts.{shiftRuns};
+ghost use Rattle.answers.specs.Answers.{verdict, acceptedBy};
+ghost use Rattle.words.specs.Entries.{cellCase, distanceCase, broadcastCases, sumCases, shiftCases};
 
 fn cell_case(side: usize, cell: usize) -> Case
     ensures { λ r. ⌜ r ≡ cellCase side cell ⌝ }
 {
-    Case {
-        applies: !is_cell(side, cell),
-        number: 4,
-        place: 0,
-    }
+    case_of(!is_cell(side, cell), 4, 0)
 }
 
 fn distance_case(side: usize, k: i32) -> Case
     ensures { λ r. ⌜ r ≡ distanceCase side k ⌝ }
 {
-    Case {
-        applies: !is_within(side, distance_of(k)),
-        number: 4,
-        place: 0,
-    }
+    case_of(!is_within(side, distance_of(k)), 4, 0)
 }
 
-pub(crate) fn broadcast_answer(side: usize, cell: usize, length: usize, log: usize) -> Answer
-    ensures { λ r. ⌜ r ≡ broadcastAnswer side cell length log ⌝ }
+pub(crate) fn judge_broadcast(side: usize, cell: usize, length: usize, log: usize) -> Answer
+    ensures { λ r. ⌜ r ≡ verdict (broadcastCases side cell length log) (acceptedBy (broadcastRuns side cell)) ⌝ }
 {
     let runs = broadcast_runs(side, cell);
-    checked(
+    let inside = refusing(cell_case(side, cell), accepted_by(runs));
+    refusing_lane(side, length, refusing(log_case(runs, log), inside))
+}
+
+// Of data sum and of prefix sum.
+pub(crate) fn judge_sum(side: usize, runs: [Run; 9], length: usize, log: usize) -> Answer
+    ensures { λ r. ⌜ r ≡ verdict (sumCases side runs length log) (acceptedBy runs) ⌝ }
+{
+    refusing_lane(
         side,
         length,
-        runs,
-        log,
-        refusing(cell_case(side, cell), accepted_by(runs)),
+        refusing(log_case(runs, log), accepted_by(runs)),
     )
 }
 
-pub(crate) fn data_sum_answer(side: usize, length: usize, log: usize) -> Answer
-    ensures { λ r. ⌜ r ≡ dataSumAnswer side length log ⌝ }
-{
-    let runs = data_sum_runs(side);
-    checked(side, length, runs, log, accepted_by(runs))
-}
-
-pub(crate) fn prefix_sum_answer(side: usize, length: usize, log: usize) -> Answer
-    ensures { λ r. ⌜ r ≡ prefixSumAnswer side length log ⌝ }
-{
-    let runs = prefix_sum_runs(side);
-    checked(side, length, runs, log, accepted_by(runs))
-}
-
-pub(crate) fn shift_answer(
+pub(crate) fn judge_shift(
     side: usize,
     axis: Axis,
     edge: Edge,
@@ -71,14 +59,9 @@ pub(crate) fn shift_answer(
     length: usize,
     log: usize,
 ) -> Answer
-    ensures { λ r. ⌜ r ≡ shiftAnswer side axis edge k length log ⌝ }
+    ensures { λ r. ⌜ r ≡ verdict (shiftCases side axis edge k length log) (acceptedBy (shiftRuns side axis edge k)) ⌝ }
 {
     let runs = shift_runs(side, axis, edge, k);
-    checked(
-        side,
-        length,
-        runs,
-        log,
-        refusing(distance_case(side, k), accepted_by(runs)),
-    )
+    let near = refusing(distance_case(side, k), accepted_by(runs));
+    refusing_lane(side, length, refusing(log_case(runs, log), near))
 }

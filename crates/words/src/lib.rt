@@ -1,10 +1,9 @@
 // The operations that use words only: broadcast, data sum, prefix sum and the eight shifts.
 mod judging;
 
-use crate::judging::broadcast_answer;
-use crate::judging::data_sum_answer;
-use crate::judging::prefix_sum_answer;
-use crate::judging::shift_answer;
+use crate::judging::judge_broadcast;
+use crate::judging::judge_shift;
+use crate::judging::judge_sum;
 use answers::Answer;
 use lists::broadcast_runs;
 use lists::data_sum_runs;
@@ -21,9 +20,9 @@ ghost use Rattle.words.specs.Entries.{Broadcast, DataSum, PrefixSum, Shi
 
 // Every word becomes that of a cell.
 pub fn broadcast(side: usize, cell: usize, words: &mut [u32], codes: &mut [u8]) -> Answer
-    ensures { λ r. ⌜ Broadcast side cell (now (words .entry)) (now (codes .entry)) r (now (words .exit)) (now (codes .exit)) ⌝ }
+    ensures { λ r. ⌜ Broadcast side cell words codes r ⌝ }
 {
-    let answer = broadcast_answer(side, cell, words.len(), codes.len());
+    let answer = judge_broadcast(side, cell, words.len(), codes.len());
     if answer.number != 0 {
         return answer;
     }
@@ -34,9 +33,9 @@ pub fn broadcast(side: usize, cell: usize, words: &mut [u32], codes: &mut [u8]) 
 
 // Every word becomes the sum of all, modulo 2^32.
 pub fn data_sum(side: usize, words: &mut [u32], codes: &mut [u8]) -> Answer
-    ensures { λ r. ⌜ DataSum side (now (words .entry)) (now (codes .entry)) r (now (words .exit)) (now (codes .exit)) ⌝ }
+    ensures { λ r. ⌜ DataSum side words codes r ⌝ }
 {
-    let answer = data_sum_answer(side, words.len(), codes.len());
+    let answer = judge_sum(side, data_sum_runs(side), words.len(), codes.len());
     if answer.number != 0 {
         return answer;
     }
@@ -47,9 +46,9 @@ pub fn data_sum(side: usize, words: &mut [u32], codes: &mut [u8]) -> Answer
 
 // Every word becomes the sum of the words up to it, modulo 2^32.
 pub fn prefix_sum(side: usize, words: &mut [u32], codes: &mut [u8]) -> Answer
-    ensures { λ r. ⌜ PrefixSum side (now (words .entry)) (now (codes .entry)) r (now (words .exit)) (now (codes .exit)) ⌝ }
+    ensures { λ r. ⌜ PrefixSum side words codes r ⌝ }
 {
-    let answer = prefix_sum_answer(side, words.len(), codes.len());
+    let answer = judge_sum(side, prefix_sum_runs(side), words.len(), codes.len());
     if answer.number != 0 {
         return answer;
     }
@@ -67,9 +66,9 @@ pub fn shift(
     words: &mut [u32],
     codes: &mut [u8],
 ) -> Answer
-    ensures { λ r. ⌜ Shift side axis edge k (now (words .entry)) (now (codes .entry)) r (now (words .exit)) (now (codes .exit)) ⌝ }
+    ensures { λ r. ⌜ Shift side axis edge k words codes r ⌝ }
 {
-    let answer = shift_answer(side, axis, edge, k, words.len(), codes.len());
+    let answer = judge_shift(side, axis, edge, k, words.len(), codes.len());
     if answer.number != 0 {
         return answer;
     }

@@ -51,7 +51,9 @@ same-length : tie.Need-same-length Inv-loop μ-loop
 same-length c = c .before .loop .inv .1 .long
 
 returns : tie.Need-returns Inv-loop μ-loop
-returns c = rewriting-end (keptAt (c .before .before .before .before .args .marks .now) (c .before .before .before .before .args .words .now)) 0 (c .before .before .before .before .args .words .now) (c .loop-test .left) (c .before .loop .inv .1)
+returns c =
+    let s = c .before .before .before .before in
+    rewriting-end (keptAt (s .args .marks .now) (s .args .words .now)) 0 (s .args .words .now) (c .loop-test .left) (c .before .loop .inv .1)
 
 pub keep-words-spec : {M : Type 1} → statement M
 keep-words-spec =

@@ -39,7 +39,10 @@ array-borrow-prefix-marks : tie.Need-array-borrow-prefix-marks
 array-borrow-prefix-marks c = marks-room _ (c .before .before .before .before .before .read .ensures) _ _ (c .before .before .before .job .given .1)
 
 slice-aggregate-solve-2 : tie.Need-slice-aggregate-solve-2
-slice-aggregate-solve-2 c = sym (ready-lanes _ (c .before .before .before .before .before .before .read .ensures) _ _ (c .before .before .before .before .job .given .1) .marks-long)
+slice-aggregate-solve-2 c =
+    let j = c .before .before .before .before in
+    let r = j .before .before in
+    sym (ready-lanes _ (r .read .ensures) _ _ (j .job .given .1) .marks-long)
 
 solve-requires : tie.Need-solve-requires
 solve-requires c κs = search ready-lanes

@@ -1,9 +1,9 @@
 -- `jobs::settle` meets its contract: concentrate behind rank.
 use Rattle.jobs.proofs.Settled.{settled}
+use mathlib.Core.Path.{refl}
 use borrow.Author.Needs.{needs}
 use Rattle.jobs.proofs.settle.Statement.{statement}
 use Rattle.jobs.proofs.settle.Tie as tie
-use Rattle.jobs.proofs.settle.Reads as reads
 
 rank-requires : tie.Need-rank-requires
 rank-requires c κs = search needs
@@ -36,7 +36,11 @@ same-length-8 : tie.Need-same-length-8
 same-length-8 c = search needs
 
 returns : tie.Need-returns
-returns c = settled (c .before .before .before .before .before .before .before .before .before .before .before .before .before .before .before .before .before .before .before .before .before .before .before .before .before .before .before .before .before .before .before .before .before .before .before .before .before .before .before .before .before .pre) (c .before .before .before .before .before .before .before .before .before .before .before .before .before .before .before .before .before .before .before .before .before .before .before .before .before .before .before .before .before .rank .ensures) (c .before .before .before .before .before .before .before .before .before .before .before .before .before .before .before .before .concentrate .ensures)
+returns c =
+    let k = c .before .before .before .before .before .before .before .before .before .before .before .before .before .before .before .before in
+    let r = k .before .before .before .before .before .before .before .before .before .before .before .before .before in
+    let s = r .before .before .before .before .before .before .before .before .before .before .before .before in
+    settled (s .pre) (r .rank .ensures) (k .concentrate .ensures) (λ i. refl)
 
 pub settle-spec : {M : Type 1} → statement M
 settle-spec =

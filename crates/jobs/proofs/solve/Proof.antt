@@ -5,7 +5,6 @@ use Rattle.jobs.proofs.Answered.{solve-filled}
 use borrow.Author.Needs.{needs}
 use Rattle.jobs.proofs.solve.Statement.{statement}
 use Rattle.jobs.proofs.solve.Tie as tie
-use Rattle.jobs.proofs.solve.Reads as reads
 
 slice-aggregate-settle-lanes : tie.Need-slice-aggregate-settle-lanes
 slice-aggregate-settle-lanes c = search needs
@@ -23,7 +22,12 @@ slice-aggregate-print-2 : tie.Need-slice-aggregate-print-2
 slice-aggregate-print-2 c = search needs
 
 print-requires : tie.Need-print-requires
-print-requires c κs = let b = c .before .before .before .before .before .before .before .before .before .before .before .before .before .before .before .before .before .pre in let k = side-known _ (b .side) in ((k .least, k .most), (omega (arith, k, b), (search needs, search needs, omega (arith, b, c .before .before .before .before .before .before .before .before .before .before .settle-lanes .kept .1 .0))))
+print-requires c κs =
+    let m = c .before .before .before .before .before .before .before .before .before .before in
+    let s = m .before .before .before .before .before .before .before in
+    let b = s .pre in
+    let k = side-known (s .args .side) (b .side) in
+    (b .side, (omega (arith, k, b), (search needs, search needs, omega (arith, b, m .settle-lanes .kept .1 .0))))
 
 same-length : tie.Need-same-length
 same-length c = search needs
@@ -32,7 +36,10 @@ same-length-2 : tie.Need-same-length-2
 same-length-2 c = search needs
 
 returns : tie.Need-returns
-returns c = solve-filled (c .before .before .before .before .before .before .before .before .before .before .before .before .before .before .before .before .before .before .pre) (c .before .before .before .before .before .before .before .before .before .before .before .settle-lanes .kept .1 .0) (c .before .before .before .before .before .before .before .before .before .before .before .settle-lanes .ensures) (c .print .ensures)
+returns c =
+    let s = c .before .before .before .before .before .before .before .before .before .before .before in
+    let s₂ = s .before .before .before .before .before .before .before in
+    solve-filled (s₂ .pre) (s .settle-lanes .kept .1 .0) (s .settle-lanes .ensures) (c .print .ensures)
 
 pub solve-spec : {M : Type 1} → statement M
 solve-spec =

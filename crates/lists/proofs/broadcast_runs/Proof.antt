@@ -38,7 +38,9 @@ div-spread-runs : tie.Need-div-spread-runs
 div-spread-runs c = known (c .before) .side .groups-pos
 
 spread-runs-requires-2 : tie.Need-spread-runs-requires-2
-spread-runs-requires-2 c κs = (known (c .before) .side .least, group-in (known (c .before) .side .least) (c .before .before .before .args .cell) (known (c .before) .inside))
+spread-runs-requires-2 c κs =
+    let s = c .before .before .before in
+    (known (c .before) .side .least, group-in (known (c .before) .side .least) (s .args .cell) (known (c .before) .inside))
 
 array-copy-out-t14 : tie.Need-array-copy-out-t14
 array-copy-out-t14 c = search needs
@@ -65,7 +67,12 @@ array-copy-out-t35 : tie.Need-array-copy-out-t35
 array-copy-out-t35 c = search needs
 
 returns-2 : tie.Need-returns-2
-returns-2 c = rw (sym (c .before .before .before .before .before .before .before .before .before .before .before .is-cell .ensures) ∙ not-false _ (c .before .before .before .before .before .before .before .before .before .before .if1 .left), c .before .before .before .before .before .before .before .before .before .spread-runs .ensures, c .before .before .before .before .before .before .before .before .spread-runs2 .ensures)
+returns-2 c =
+    let s = c .before .before .before .before .before .before .before .before in
+    let s₂ = s .before in
+    let i = s₂ .before in
+    let i₂ = i .before in
+    rw (sym (i₂ .is-cell .ensures) ∙ not-false _ (i .if1 .left), s₂ .spread-runs .ensures, s .spread-runs2 .ensures)
 
 pub broadcast-runs-spec : {M : Type 1} → statement M
 broadcast-runs-spec =

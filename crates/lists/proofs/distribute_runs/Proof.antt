@@ -3,14 +3,11 @@ use borrow.Author.Needs.{needs}
 use Rattle.lists.proofs.distribute_runs.Statement.{statement}
 use Rattle.lists.proofs.distribute_runs.Tie as tie
 
-one-less-requires : tie.Need-one-less-requires
-one-less-requires c κs = search needs
-
 whole-runs-requires : tie.Need-whole-runs-requires
 whole-runs-requires c κs = search needs
 
 returns : tie.Need-returns
-returns c = rw (c .before .one-less .ensures) at (c .whole-runs .ensures)
+returns c = search needs
 
 pub distribute-runs-spec : {M : Type 1} → statement M
-distribute-runs-spec = tie.close (tie.spec one-less-requires whole-runs-requires returns)
+distribute-runs-spec = tie.close (tie.spec whole-runs-requires returns)

@@ -1,6 +1,7 @@
 -- `lists::whole_runs` meets its contract: the runs are filled one after the other.
-use Prim.Native.Nat.{_-_, _≤_}
-use mathlib.Core.Path.{ap}
+use Prim.Native.Nat.{ℕ, _-_, _≤_}
+use mathlib.Core.Path.{ap, _∙_}
+use mathlib.Core.List.{map}
 use lib.ListN.{length, getD}
 use native.Mathlib.Omega.{arith}
 use borrow.Author.Needs.{needs}
@@ -11,10 +12,14 @@ use Rattle.lists.proofs.whole_runs.Statement.{statement}
 use Rattle.lists.proofs.whole_runs.Tie as tie
 
 abbrev Inv-loop : tie.InvT-loop
-Inv-loop n steps runs₀ q₀ runs q = (q ≤ 9) × Filled (λ k. whole n (getD steps k Swap)) (whole n Swap) (length steps) runs q
+Inv-loop side steps last runs₀ q₀ runs q =
+    (q ≤ 9) × Filled (λ k. whole last (getD steps k Swap)) (whole last Swap) (length steps) runs q
 
 abbrev μ-loop : tie.MeasureT-loop
-μ-loop n steps runs₀ q₀ runs q = 9 - q
+μ-loop side steps last runs₀ q₀ runs q = 9 - q
+
+over-requires : tie.Need-over-requires Inv-loop μ-loop
+over-requires c κs = search needs
 
 no-runs-requires : tie.Need-no-runs-requires Inv-loop μ-loop
 no-runs-requires c κs = search needs
@@ -47,7 +52,9 @@ loop-again : tie.Need-loop-again Inv-loop μ-loop
 loop-again c = (search needs, filled-next _ _ _ (search needs) (c .whole .ensures) (c .before .before .before .loop .inv .1))
 
 returns : tie.Need-returns Inv-loop μ-loop
-returns c = filled-map (whole _) Swap (c .before .before .before .args .t2) (search needs) (c .before .loop .inv .1)
+returns c =
+    let steps = c .before .before .before .before .args .t2 in
+    filled-map (whole _) Swap steps (search needs) (c .before .loop .inv .1) ∙ ap (λ (n : ℕ). map (whole n) steps) (c .before .before .before .over .ensures)
 
 pub whole-runs-spec : {M : Type 1} → statement M
 whole-runs-spec =
@@ -55,6 +62,7 @@ whole-runs-spec =
     (tie.spec
     Inv-loop
     μ-loop
+    over-requires
     no-runs-requires
     loop-holds
     mul-step

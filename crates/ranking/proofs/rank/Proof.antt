@@ -1,20 +1,27 @@
 -- `ranking::rank` meets its contract: where no case applies the marks are good marks of a board.
 use lib.ListN.{length}
-use Rattle.ranking.proofs.Answering.{marked, aims-long, refused-leaves, accepted-leaves}
+use mathlib.Core.Path.{refl}
+use Rattle.lists.specs.Lists.{prefixSumRuns}
+use Rattle.answers.proofs.Entering.{entry-refused, entry-accepted, logged}
+use Rattle.ranking.proofs.Answering.{marked, aims-long, room}
 use borrow.Author.Needs.{needs}
 use Rattle.ranking.proofs.rank.Statement.{statement}
 use Rattle.ranking.proofs.rank.Tie as tie
 
-answer-of-requires : tie.Need-answer-of-requires
-answer-of-requires c κs = search needs
+judge-rank-requires : tie.Need-judge-rank-requires
+judge-rank-requires c κs = search needs
 
 returns : tie.Need-returns
-returns c = refused-leaves (c .before .before .answer-of .ensures) (c .if1 .taken)
+returns c = entry-refused (c .before .before .judge-rank .ensures) (c .if1 .taken) (refl, refl)
 
 write-ranks-requires : tie.Need-write-ranks-requires
 write-ranks-requires c κs =
-    let a = c .before .before .before .before .before .before .before .args in
-    (marked (a .side) (a .marks .now) (length (a .aims .now)) (length (a .codes .now)) (c .before .before .before .answer-of .ensures) (c .before .if1 .left), aims-long (a .side) (a .marks .now) (length (a .aims .now)) (length (a .codes .now)) (c .before .before .before .answer-of .ensures) (c .before .if1 .left))
+    let j = c .before .before .before in
+    let a = j .before .before .before .before .args in
+    let z = c .before .if1 .left in
+    let n = length (a .aims .now) in
+    let log = length (a .codes .now) in
+    (marked (a .side) (a .marks .now) n log (j .judge-rank .ensures) z, aims-long (a .side) (a .marks .now) n log (j .judge-rank .ensures) z)
 
 prefix-sum-runs-requires : tie.Need-prefix-sum-runs-requires
 prefix-sum-runs-requires c κs = search needs
@@ -29,13 +36,21 @@ same-length-2 : tie.Need-same-length-2
 same-length-2 c = search needs
 
 returns-2 : tie.Need-returns-2
-returns-2 c = accepted-leaves (c .before .before .before .before .before .before .before .before .before .before .before .answer-of .ensures) (c .before .before .before .before .before .before .before .before .before .if1 .left) (c .before .before .before .before .before .before .before .write-ranks .ensures) (c .before .before .before .before .prefix-sum-runs .ensures) (c .before .before .write-codes .ensures)
+returns-2 c =
+    let w = c .before .before in
+    let l = w .before .before .before .before .before in
+    let j = l .before .before .before .before in
+    let a = j .before .before .before .before .args in
+    let e = j .judge-rank .ensures in
+    let z = l .before .before .if1 .left in
+    let fits = room (a .side) (a .marks .now) (length (a .aims .now)) (length (a .codes .now)) e z in
+    entry-accepted e z (l .write-ranks .ensures) (logged (prefixSumRuns (a .side)) (a .codes .now) fits (w .before .before .prefix-sum-runs .ensures) (w .write-codes .ensures))
 
 pub rank-spec : {M : Type 1} → statement M
 rank-spec =
     tie.close
     (tie.spec
-    answer-of-requires
+    judge-rank-requires
     returns
     write-ranks-requires
     prefix-sum-runs-requires

@@ -12,7 +12,11 @@ prefix-words-requires : tie.Need-prefix-words-requires
 prefix-words-requires c κs = search needs
 
 unload-requires : tie.Need-unload-requires
-unload-requires c κs = (summed (c .before .before .before .before .before .before .before .before .before .before .before .before .before .pre .0) (c .before .before .before .before .before .before .before .before .load .ensures) (c .before .before .before .before .prefix-words .ensures), search needs)
+unload-requires c κs =
+    let p = c .before .before .before .before in
+    let l = p .before .before .before .before in
+    let s = l .before .before .before .before .before in
+    (summed (s .pre .0) (l .load .ensures) (p .prefix-words .ensures), search needs)
 
 same-length : tie.Need-same-length
 same-length c = search needs
@@ -21,7 +25,9 @@ same-length-2 : tie.Need-same-length-2
 same-length-2 c = search needs
 
 returns : tie.Need-returns
-returns c = c .before .before .unload .ensures ∙ ranks-are (c .before .before .before .before .before .before .before .before .before .before .before .before .before .before .before .before .args .side) (c .before .before .before .before .before .before .before .before .before .before .before .before .before .before .before .before .args .marks .now) (c .before .before .before .before .before .before .before .before .before .before .before .before .before .before .before .before .pre .0 .size)
+returns c =
+    let s = c .before .before .before .before .before .before .before .before .before .before .before .before .before .before .before .before in
+    c .before .before .unload .ensures ∙ ranks-are (s .args .side) (s .args .marks .now) (s .pre .0 .size)
 
 pub rank-lanes-spec : {M : Type 1} → statement M
 rank-lanes-spec =

@@ -12,7 +12,11 @@ prefix-least-requires : tie.Need-prefix-least-requires
 prefix-least-requires c κs = search needs
 
 unload-requires : tie.Need-unload-requires
-unload-requires c κs = (summed-least (c .before .before .before .before .before .before .before .before .before .before .before .before .before .pre .0) (c .before .before .before .before .before .before .before .before .before .before .before .before .before .pre .1 .1 .1) (c .before .before .before .before .before .before .before .before .load .ensures) (c .before .before .before .before .prefix-least .ensures), search needs)
+unload-requires c κs =
+    let p = c .before .before .before .before in
+    let l = p .before .before .before .before in
+    let s = l .before .before .before .before .before in
+    (summed-least (s .pre .0) (s .pre .1 .1 .1) (l .load .ensures) (p .prefix-least .ensures), search needs)
 
 same-length : tie.Need-same-length
 same-length c = search needs
@@ -21,7 +25,9 @@ same-length-2 : tie.Need-same-length-2
 same-length-2 c = search needs
 
 returns : tie.Need-returns
-returns c = c .before .before .unload .ensures ∙ ranks-are (c .before .before .before .before .before .before .before .before .before .before .before .before .before .before .before .before .args .side) (c .before .before .before .before .before .before .before .before .before .before .before .before .before .before .before .before .args .marks .now) (c .before .before .before .before .before .before .before .before .before .before .before .before .before .before .before .before .pre .0 .size)
+returns c =
+    let s = c .before .before .before .before .before .before .before .before .before .before .before .before .before .before .before .before in
+    c .before .before .unload .ensures ∙ ranks-are (s .args .side) (s .args .marks .now) (s .pre .0 .size)
 
 pub rank-least-spec : {M : Type 1} → statement M
 rank-least-spec =

@@ -43,7 +43,10 @@ loop-less : tie.Need-loop-less Inv-loop μ-loop
 loop-less c = search needs
 
 loop-again : tie.Need-loop-again Inv-loop μ-loop
-loop-again c = (search needs, filled-next _ _ _ (search needs) (c .aim .ensures ∙ aim-is (c .before .before .before .before .before .before .before .before .pre .0) (c .before .before .before .before .loop .i) (search needs)) (c .before .before .before .before .loop .inv .1))
+loop-again c =
+    let l = c .before .before .before .before in
+    let s = l .before .before .before .before in
+    (search needs, filled-next _ _ _ (search needs) (c .aim .ensures ∙ aim-is (s .pre .0) (l .loop .i) (search needs)) (l .loop .inv .1))
 
 same-length : tie.Need-same-length Inv-loop μ-loop
 same-length c = search needs

@@ -11,7 +11,9 @@ write-few-requires : tie.Need-write-few-requires
 write-few-requires c κs = search needs
 
 write-many-requires : tie.Need-write-many-requires
-write-many-requires c κs = (c .before .before .before .before .before .pre .0, (c .before .before .before .before .before .pre .1, rw (c .before .before .before .before .before .pre .0 .size) (side-known (c .before .before .before .before .before .args .side) (c .before .before .before .before .before .pre .0 .side) .cells-few)))
+write-many-requires c κs =
+    let s = c .before .before .before .before .before in
+    (s .pre .0, (s .pre .1, rw (s .pre .0 .size) (side-known (s .args .side) (s .pre .0 .side) .cells-few)))
 
 same-length : tie.Need-same-length
 same-length c = search needs

@@ -6,8 +6,11 @@ use Rattle.stretches.proofs.group_case.Tie as tie
 is-group-requires : tie.Need-is-group-requires
 is-group-requires c κs = search needs
 
+case-of-requires : tie.Need-case-of-requires
+case-of-requires c κs = search needs
+
 returns : tie.Need-returns
-returns c = rw (c .is-group .ensures)
+returns c = rw (c .before .is-group .ensures) at (c .case-of .ensures)
 
 pub group-case-spec : {M : Type 1} → statement M
-group-case-spec = tie.close (tie.spec is-group-requires returns)
+group-case-spec = tie.close (tie.spec is-group-requires case-of-requires returns)

@@ -1,15 +1,22 @@
 -- `words::broadcast` meets its contract: refused, all is as it was; accepted, the lane holds the result.
-use Rattle.words.proofs.Answering.{entry-refused}
-use Rattle.words.proofs.Entering.{broadcast-done}
+use mathlib.Core.Path.{refl}
+use Rattle.answers.proofs.Entering.{entry-refused}
+use Rattle.words.proofs.Entering.{on-words}
+use mathlib.Core.List.{[], _∷_}
+use borrow.Author.Tests.{not-false}
+use Rattle.array.specs.Cells.{isCell}
+use Rattle.lists.specs.Lists.{broadcastRuns}
+use Rattle.spreads.specs.Results.{broadcastWords}
+use Rattle.words.specs.Entries.{cellCase}
 use borrow.Author.Needs.{needs}
 use Rattle.words.proofs.broadcast.Statement.{statement}
 use Rattle.words.proofs.broadcast.Tie as tie
 
-broadcast-answer-requires : tie.Need-broadcast-answer-requires
-broadcast-answer-requires c κs = search needs
+judge-broadcast-requires : tie.Need-judge-broadcast-requires
+judge-broadcast-requires c κs = search needs
 
 returns : tie.Need-returns
-returns c = entry-refused _ _ _ _ _ _ (c .before .before .broadcast-answer .ensures) (c .if1 .taken)
+returns c = entry-refused (c .before .before .judge-broadcast .ensures) (c .if1 .taken) (refl, refl)
 
 broadcast-words-requires : tie.Need-broadcast-words-requires
 broadcast-words-requires c κs = search needs
@@ -27,13 +34,21 @@ same-length-2 : tie.Need-same-length-2
 same-length-2 c = search needs
 
 returns-2 : tie.Need-returns-2
-returns-2 c = broadcast-done (c .before .before .before .before .before .before .before .before .before .before .before .before .before .before .args .side) (c .before .before .before .before .before .before .before .before .before .before .before .before .before .before .args .words .now) (c .before .before .before .before .before .before .before .before .before .before .before .before .before .before .args .codes .now) _ _ _ (c .before .before .before .before .before .before .before .before .before .before .before .before .before .before .args .cell) (c .before .before .before .before .before .before .before .before .before .before .before .broadcast-answer .ensures) (c .before .before .before .before .before .before .before .before .before .if1 .left) (c .before .before .before .before .before .before .before .broadcast-words .ensures) (rw (c .before .before .before .before .broadcast-runs .ensures) at (c .before .before .write-codes .ensures))
+returns-2 c =
+    let w = c .before .before in
+    let l = w .before .before .before .before .before in
+    let j = l .before .before .before .before in
+    let a = j .before .before .before .args in
+    let words = a .words .now in
+    on-words (a .side) (broadcastRuns (a .side) (a .cell)) (cellCase (a .side) (a .cell) ∷ []) words (a .codes .now) (broadcastWords (a .side) (a .cell) words)
+    refl (j .judge-broadcast .ensures) (l .before .before .if1 .left) (λ b n. rw (b, not-false (isCell (a .side) (a .cell)) (n .0)) at (l .broadcast-words .ensures))
+    (w .before .before .broadcast-runs .ensures) (w .write-codes .ensures)
 
 pub broadcast-spec : {M : Type 1} → statement M
 broadcast-spec =
     tie.close
     (tie.spec
-    broadcast-answer-requires
+    judge-broadcast-requires
     returns
     broadcast-words-requires
     broadcast-runs-requires

@@ -1,17 +1,26 @@
 -- `words::shift` meets its contract: refused, all is as it was; accepted, the lane holds the result. The distance is as the machine reads it.
+use mathlib.Core.Path.{refl}
+use Rattle.answers.proofs.Entering.{entry-refused}
+use Rattle.words.proofs.Entering.{on-words}
+use mathlib.Core.List.{[], _∷_}
+use borrow.Author.Tests.{not-false}
+use Rattle.shifts.specs.Shifts.{distanceOf, within, shiftRuns}
+use Rattle.slides.specs.Results.{shiftWords}
+use Rattle.words.specs.Entries.{distanceCase}
 use mir.Syntax.{w32}
 use mir.ValLaws.{toZ-ofZ}
-use Rattle.words.proofs.Answering.{entry-refused}
-use Rattle.words.proofs.Entering.{shift-done}
 use borrow.Author.Needs.{needs}
 use Rattle.words.proofs.shift.Statement.{statement}
 use Rattle.words.proofs.shift.Tie as tie
 
-shift-answer-requires : tie.Need-shift-answer-requires
-shift-answer-requires c κs = search needs
+judge-shift-requires : tie.Need-judge-shift-requires
+judge-shift-requires c κs = search needs
 
 returns : tie.Need-returns
-returns c = entry-refused _ _ _ _ _ _ (rw (toZ-ofZ w32 (c .before .before .before .before .before .args .k) (c .before .before .before .before .before .fits .k)) at (c .before .before .shift-answer .ensures)) (c .if1 .taken)
+returns c =
+    let s = c .before .before .before .before .before in
+    let read = toZ-ofZ w32 (s .args .k) (s .fits .k) in
+    entry-refused (rw read at (c .before .before .judge-shift .ensures)) (c .if1 .taken) (refl, refl)
 
 shift-words-requires : tie.Need-shift-words-requires
 shift-words-requires c κs = search needs
@@ -30,15 +39,22 @@ same-length-2 c = search needs
 
 returns-2 : tie.Need-returns-2
 returns-2 c =
-    let read = toZ-ofZ w32 (c .before .before .before .before .before .before .before .before .before .before .before .before .before .before .args .k) (c .before .before .before .before .before .before .before .before .before .before .before .before .before .before .fits .k) in
-    shift-done (c .before .before .before .before .before .before .before .before .before .before .before .before .before .before .args .side) (c .before .before .before .before .before .before .before .before .before .before .before .before .before .before .args .words .now) (c .before .before .before .before .before .before .before .before .before .before .before .before .before .before .args .codes .now) _ _ _ (c .before .before .before .before .before .before .before .before .before .before .before .before .before .before .args .axis) (c .before .before .before .before .before .before .before .before .before .before .before .before .before .before .args .edge) (c .before .before .before .before .before .before .before .before .before .before .before .before .before .before .args .k) (rw read at (c .before .before .before .before .before .before .before .before .before .before .before .shift-answer .ensures)) (c .before .before .before .before .before .before .before .before .before .if1 .left) (rw read at (c .before .before .before .before .before .before .before .shift-words .ensures))
-    (rw (c .before .before .before .before .shift-runs .ensures, read) at (c .before .before .write-codes .ensures))
+    let w = c .before .before in
+    let l = w .before .before .before .before .before in
+    let j = l .before .before .before .before in
+    let s = j .before .before .before in
+    let a = s .args in
+    let words = a .words .now in
+    let read = toZ-ofZ w32 (a .k) (s .fits .k) in
+    on-words (a .side) (shiftRuns (a .side) (a .axis) (a .edge) (a .k)) (distanceCase (a .side) (a .k) ∷ []) words (a .codes .now) (shiftWords (a .side) (a .axis) (a .edge) (a .k) words)
+    refl (rw read at (j .judge-shift .ensures)) (l .before .before .if1 .left) (λ b n. rw (b, not-false (within (a .side) (distanceOf (a .k))) (n .0)) at (rw read at (l .shift-words .ensures)))
+    (rw read at (w .before .before .shift-runs .ensures)) (w .write-codes .ensures)
 
 pub shift-spec : {M : Type 1} → statement M
 shift-spec =
     tie.close
     (tie.spec
-    shift-answer-requires
+    judge-shift-requires
     returns
     shift-words-requires
     shift-runs-requires

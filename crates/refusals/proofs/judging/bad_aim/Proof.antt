@@ -25,14 +25,27 @@ returns-3 c = let s = c .before .before .before .before .before .before .before 
     rw (eq-eqb _ _ (c .before .before .before .before .before .if1 .left), le-ltb (s .c .rank) (s .c .cell) (omega (arith, c .before .before .before .if2 .left)), e)
 
 returns-4 : tie.Need-returns-4
-returns-4 c = let s = c .before .before .before .before .before .before .before .before .before .args in
-    let e : isCell (s .side) (s .c .aim) ≡ true = ap (isCell (s .side)) (sym (c .before .before .before .before .wide .ensures)) ∙ sym (c .before .before .before .is-cell .ensures) ∙ not-false _ (c .before .before .if3 .left) in
-    rw (eq-eqb _ _ (c .before .before .before .before .before .before .before .if1 .left), le-ltb (s .c .rank) (s .c .cell) (omega (arith, c .before .before .before .before .before .if2 .left)), e, le-ltb 0 (s .c .cell) (omega (arith, c .if4 .taken)))
+returns-4 c =
+    let i = c .before .before .before in
+    let w = i .before in
+    let i₂ = w .before in
+    let i₃ = i₂ .before .before in
+    let s₂ = i₃ .before .before in
+    let s = s₂ .args in
+    let e : isCell (s .side) (s .c .aim) ≡ true = ap (isCell (s .side)) (sym (w .wide .ensures)) ∙ sym (i .is-cell .ensures) ∙ not-false _ (c .before .before .if3 .left) in
+    rw (eq-eqb _ _ (i₃ .if1 .left), le-ltb (s .c .rank) (s .c .cell) (omega (arith, i₂ .if2 .left)), e, le-ltb 0 (s .c .cell) (omega (arith, c .if4 .taken)))
 
 returns-5 : tie.Need-returns-5
-returns-5 c = let s = c .before .before .before .before .before .before .before .before .before .before .args in
-    let e : isCell (s .side) (s .c .aim) ≡ true = ap (isCell (s .side)) (sym (c .before .before .before .before .before .wide .ensures)) ∙ sym (c .before .before .before .before .is-cell .ensures) ∙ not-false _ (c .before .before .before .if3 .left) in
-    rw (eq-eqb _ _ (c .before .before .before .before .before .before .before .before .if1 .left), le-ltb (s .c .rank) (s .c .cell) (omega (arith, c .before .before .before .before .before .before .if2 .left)), e, lt-ltb 0 (s .c .cell) (omega (arith, c .before .if4 .left)))
+returns-5 c =
+    let i = c .before .before .before in
+    let i₂ = i .before in
+    let w = i₂ .before in
+    let i₃ = w .before in
+    let i₄ = i₃ .before .before in
+    let s₂ = i₄ .before .before in
+    let s = s₂ .args in
+    let e : isCell (s .side) (s .c .aim) ≡ true = ap (isCell (s .side)) (sym (w .wide .ensures)) ∙ sym (i₂ .is-cell .ensures) ∙ not-false _ (i .if3 .left) in
+    rw (eq-eqb _ _ (i₄ .if1 .left), le-ltb (s .c .rank) (s .c .cell) (omega (arith, i₃ .if2 .left)), e, lt-ltb 0 (s .c .cell) (omega (arith, c .before .if4 .left)))
 
 pub bad-aim-spec : {M : Type 1} → statement M
 bad-aim-spec =

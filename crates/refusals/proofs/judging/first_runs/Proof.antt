@@ -27,8 +27,8 @@ mul-run c = search needs
 array-copy-out-run : tie.Need-array-copy-out-run Inv-loop μ-loop
 array-copy-out-run c = search needs
 
-fewer-requires : tie.Need-fewer-requires Inv-loop μ-loop
-fewer-requires c κs = search needs
+least-requires : tie.Need-least-requires Inv-loop μ-loop
+least-requires c κs = search needs
 
 mul-firsts : tie.Need-mul-firsts Inv-loop μ-loop
 mul-firsts c = search needs
@@ -37,7 +37,7 @@ array-set-from-firsts : tie.Need-array-set-from-firsts Inv-loop μ-loop
 array-set-from-firsts c = c .before .before .loop-test .taken
 
 sub-left : tie.Need-sub-left Inv-loop μ-loop
-sub-left c = omega (arith, c .fewer .ensures)
+sub-left c = omega (arith, c .least .ensures)
 
 add-q : tie.Need-add-q Inv-loop μ-loop
 add-q c = search needs
@@ -46,7 +46,7 @@ loop-less : tie.Need-loop-less Inv-loop μ-loop
 loop-less c = search needs
 
 loop-again : tie.Need-loop-again Inv-loop μ-loop
-loop-again c = cutting-next (record { step = Swap; times = 0 }) (omega arith) (c .before .before .loop-test .taken) (c .fewer .ensures) (c .before .before .before .loop .inv)
+loop-again c = cutting-next (record { step = Swap; times = 0 }) (omega arith) (c .before .before .loop-test .taken) (c .least .ensures) (c .before .before .before .loop .inv)
 
 returns : tie.Need-returns Inv-loop μ-loop
 returns c = cutting-end (omega arith) (c .loop-test .left) (c .before .loop .inv)
@@ -61,7 +61,7 @@ first-runs-spec =
     loop-holds
     mul-run
     array-copy-out-run
-    fewer-requires
+    least-requires
     mul-firsts
     array-set-from-firsts
     sub-left

@@ -1,7 +1,7 @@
--- `refusals::judging::is_beyond` meets its contract: only of a side that is built.
-use mathlib.Core.Path.{sym, _∙_}
-use native.Mathlib.Omega.{arith}
-use Rattle.array.proofs.Board.{side-known}
+-- `refusals::judging::is_beyond` meets its contract: the moves are those of a board where there is one.
+use Prim.Native.Nat.{ℕ}
+use mathlib.Core.Path.{sym, ap, _∙_}
+use lib.Dec.{ltb}
 use borrow.Author.Needs.{needs}
 use Rattle.refusals.proofs.judging.is_beyond.Statement.{statement}
 use Rattle.refusals.proofs.judging.is_beyond.Tie as tie
@@ -9,21 +9,18 @@ use Rattle.refusals.proofs.judging.is_beyond.Tie as tie
 is-side-requires : tie.Need-is-side-requires
 is-side-requires c κs = search needs
 
-sub-result : tie.Need-sub-result
-sub-result c = omega (arith, side-known (c .before .before .args .side) (sym (c .before .is-side .ensures) ∙ c .if1 .taken))
-
-mul-result : tie.Need-mul-result
-mul-result c = omega (arith, side-known (c .before .before .args .side) (sym (c .before .is-side .ensures) ∙ c .if1 .taken))
-
-add-result : tie.Need-add-result
-add-result c = omega (arith, side-known (c .before .before .args .side) (sym (c .before .is-side .ensures) ∙ c .if1 .taken))
+total-moves-requires : tie.Need-total-moves-requires
+total-moves-requires c κs = search needs
 
 returns : tie.Need-returns
-returns c = rw (sym (c .before .is-side .ensures) ∙ c .if1 .taken)
+returns c =
+    let i = c .before in
+    let a = i .before .before .args in
+    let built = sym (i .before .is-side .ensures) ∙ i .if1 .taken in
+    rw built (ap (λ (n : ℕ). ltb n (a .cut)) (rw built at (c .total-moves .ensures)))
 
 returns-2 : tie.Need-returns-2
-returns-2 c = rw (sym (c .before .is-side .ensures) ∙ c .if1 .left)
+returns-2 c = rw (sym (c .before .is-side .ensures) ∙ c .if1 .left) (c .if1 .left)
 
 pub is-beyond-spec : {M : Type 1} → statement M
-is-beyond-spec =
-    tie.close (tie.spec is-side-requires sub-result mul-result add-result returns returns-2)
+is-beyond-spec = tie.close (tie.spec is-side-requires total-moves-requires returns returns-2)

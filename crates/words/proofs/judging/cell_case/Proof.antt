@@ -6,8 +6,11 @@ use Rattle.words.proofs.judging.cell_case.Tie as tie
 is-cell-requires : tie.Need-is-cell-requires
 is-cell-requires c κs = search needs
 
+case-of-requires : tie.Need-case-of-requires
+case-of-requires c κs = search needs
+
 returns : tie.Need-returns
-returns c = rw (c .is-cell .ensures)
+returns c = rw (c .before .is-cell .ensures) at (c .case-of .ensures)
 
 pub cell-case-spec : {M : Type 1} → statement M
-cell-case-spec = tie.close (tie.spec is-cell-requires returns)
+cell-case-spec = tie.close (tie.spec is-cell-requires case-of-requires returns)

@@ -11,8 +11,14 @@ distance-of-requires c κs = search needs
 is-within-requires : tie.Need-is-within-requires
 is-within-requires c κs = search needs
 
+case-of-requires : tie.Need-case-of-requires
+case-of-requires c κs = search needs
+
 returns : tie.Need-returns
-returns c = rw (c .is-within .ensures, c .before .distance-of .ensures, toZ-ofZ w32 (c .before .before .args .k) (c .before .before .fits .k))
+returns c =
+    let b = c .before .before in
+    let s = b .before in
+    rw (c .before .is-within .ensures, b .distance-of .ensures, toZ-ofZ w32 (s .args .k) (s .fits .k)) at (c .case-of .ensures)
 
 pub distance-case-spec : {M : Type 1} → statement M
-distance-case-spec = tie.close (tie.spec distance-of-requires is-within-requires returns)
+distance-case-spec = tie.close (tie.spec distance-of-requires is-within-requires case-of-requires returns)
