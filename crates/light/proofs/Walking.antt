@@ -18,7 +18,7 @@ use Rattle.array.specs.Cells.{isSide, cells, partner}
 use Rattle.array.proofs.Board.{Side}
 use Rattle.light.specs.Lane.{isBoard, swappedLane}
 use Rattle.light.specs.Counts.{markCount, leavesOf, leavingOf}
-use Rattle.light.specs.Lanes.{Slots, slots, onBoard, each, swappedBy, Swapped}
+use Rattle.light.specs.Lanes.{Slots, slots, onBoard, each, swappedBy, Table, Swapped}
 use Rattle.light.specs.Inside.{exchanged, Traded, Once, Times}
 use Rattle.light.proofs.Boards.{Boards, boards-known}
 use Rattle.light.proofs.Leaving.{turned, turned-start, turned-end, turned-trade, turned-skip, sum-paired-off}
@@ -168,7 +168,7 @@ pub times-end : {s n j : ℕ} {t u : Slots} {r : ℕ} → n ≤ j → j ≤ n �
 times-end {s} {n} {j} {t} {u} {r} h k z = let e : j ≡ n = omega arith in rw e at z
 
 -- front slots and spare slots
-pub both-swapped : {s n : ℕ} {t t₂ u u₂ : Slots} {a b r : ℕ} → Times s n t u a → Times s n t₂ u₂ b → r ≡ a + b → Swapped s n t t₂ u u₂ r
+pub both-swapped : {s n : ℕ} {t t₂ u u₂ : Slots} {a b r : ℕ} → Times s n t u a → Times s n t₂ u₂ b → r ≡ a + b → Swapped s n (record { front = t; spare = t₂ }) (record { front = u; spare = u₂ }) r
 both-swapped {s} {n} {t} {t₂} y z e = record { front = y .lanes; spare = z .lanes; count = e ∙ ap₂ _+_ (y .count) (z .count) ∙ go (eqb n 0) }
   where
     go : (b : Bool) → cond b 0 (leavingOf s (t .marks)) + cond b 0 (leavingOf s (t₂ .marks)) ≡ cond b 0 (leavingOf s (t .marks) + leavingOf s (t₂ .marks))
@@ -180,5 +180,5 @@ pub some-counted : (a : Bool) (times : ℕ) {b : Bool} {n : ℕ} → n ≡ cond 
 some-counted true times e f h = sym f
 some-counted false times e f h = absurd (omega arith)
 
-pub swapped-counted : (a b : Bool) (times : ℕ) {s n : ℕ} {t t₂ u u₂ : Slots} {r : ℕ} → n ≡ cond a times 0 → a ≡ b → Swapped s n t t₂ u u₂ r → Swapped s (cond b times 0) t t₂ u u₂ r
-swapped-counted a b times {s = s} {t = t} {t₂} {u} {u₂} {r} e f z = subst (λ (k : ℕ). Swapped s k t t₂ u u₂ r) (e ∙ ap (λ (c : Bool). cond c times 0) f) z
+pub swapped-counted : (a b : Bool) (times : ℕ) {s n : ℕ} {t u : Table} {r : ℕ} → n ≡ cond a times 0 → a ≡ b → Swapped s n t u r → Swapped s (cond b times 0) t u r
+swapped-counted a b times {s = s} {t = t} {u} {r} e f z = subst (λ (k : ℕ). Swapped s k t u r) (e ∙ ap (λ (c : Bool). cond c times 0) f) z

@@ -42,14 +42,24 @@ unfoldable pub swappedBy : ℕ → ℕ → List ℕ → List ℕ
 swappedBy s zero l = l
 swappedBy s (suc n) l = swappedLane s (swappedBy s n l)
 
--- the front slots t and the spare slots t₂ after n swaps, of which each takes r records to another cell
-pub record Swapped (s n : ℕ) (t t₂ u u₂ : Slots) (r : ℕ) : Type 0 where
-  pub front : u ≡ each (swappedBy s n) t
-  pub spare : u₂ ≡ each (swappedBy s n) t₂
-  pub count : r ≡ cond (eqb n 0) 0 (leavingOf s (t .marks) + leavingOf s (t₂ .marks))
+-- all six lanes at one moment
+pub record Table : Type 0 where
+  pub front : Slots
+  pub spare : Slots
+
+-- six lent lanes as they were, and as they are
+abbrev pub before : Lent → Lent → Lent → Lent → Lent → Lent → Table
+before w m a w₂ m₂ a₂ = record { front = slots (old w) (old m) (old a); spare = slots (old w₂) (old m₂) (old a₂) }
+
+abbrev pub after : Lent → Lent → Lent → Lent → Lent → Lent → Table
+after w m a w₂ m₂ a₂ = record { front = slots (new w) (new m) (new a); spare = slots (new w₂) (new m₂) (new a₂) }
+
+-- table t after n swaps, of which each takes r records to another cell
+pub record Swapped (s n : ℕ) (t u : Table) (r : ℕ) : Type 0 where
+  pub front : u .front ≡ each (swappedBy s n) (t .front)
+  pub spare : u .spare ≡ each (swappedBy s n) (t .spare)
+  pub count : r ≡ cond (eqb n 0) 0 (leavingOf s (t .front .marks) + leavingOf s (t .spare .marks))
 
 -- n swaps of lent lanes; none, where they are not a board's
 abbrev pub SwappedLanes : ℕ → ℕ → Lent → Lent → Lent → Lent → Lent → Lent → ℕ → Type 0
-SwappedLanes s n w m a w₂ m₂ a₂ r =
-    Swapped s (cond (haveBoard s w m a w₂ m₂ a₂) n 0)
-    (slots (old w) (old m) (old a)) (slots (old w₂) (old m₂) (old a₂)) (slots (new w) (new m) (new a)) (slots (new w₂) (new m₂) (new a₂)) r
+SwappedLanes s n w m a w₂ m₂ a₂ r = Swapped s (cond (haveBoard s w m a w₂ m₂ a₂) n 0) (before w m a w₂ m₂ a₂) (after w m a w₂ m₂ a₂) r

@@ -18,7 +18,7 @@ use Rattle.array.specs.Cells.{isSide, cells, partner}
 use Rattle.array.proofs.Board.{side-known, partner-in}
 use Rattle.light.specs.Lane.{isBoard, swappedLane}
 use Rattle.light.specs.Counts.{leavesOf, leavingOf}
-use Rattle.light.specs.Lanes.{Slots, slots, each, swappedBy, Swapped}
+use Rattle.light.specs.Lanes.{Slots, slots, each, swappedBy, Table, Swapped}
 use Rattle.light.proofs.Leaving.{sum-paired-off}
 use Rattle.light.proofs.Turning.{paired}
 use Rattle.slots.specs.declared.Rec.{Rec}
@@ -27,6 +27,9 @@ use Rattle.slots.specs.Cells.{Sized, recordIn, cellAt, countOf, marksIn}
 use Rattle.slots.proofs.Stored.{rec-ext}
 use Rattle.mover.specs.Runs.{swapped}
 use Rattle.mover.specs.Inside.{leaving}
+
+abbrev table : List ℕ → List ℕ → List ℕ → List ℕ → List ℕ → List ℕ → Table
+table w m a w₂ m₂ a₂ = record { front = slots w m a; spare = slots w₂ m₂ a₂ }
 
 one-most : (x : Rec) → countOf x ≤ 1
 one-most x = go (eqb (x .mark) 0)
@@ -99,8 +102,8 @@ module _ (s : ℕ) (side : isSide s ≡ true) where
         (slot-swapped n w₂ m₂ a₂ (z .words2) (z .marks2) (z .aims2) i h)
         ∙ cells-swaps n (partner s i) (partner-in (side-known s side .least) i h)
 
-    module _ {w′ m′ a′ w₂′ m₂′ a₂′ : List ℕ} (n : ℕ) {b : Bool} {r : ℕ} (on : b ≡ true) (q : Swapped s (cond b n 0) (slots w m a) (slots w₂ m₂ a₂) (slots w′ m′ a′) (slots w₂′ m₂′ a₂′) r) where
-      q′ : Swapped s n (slots w m a) (slots w₂ m₂ a₂) (slots w′ m′ a′) (slots w₂′ m₂′ a₂′) r
+    module _ {w′ m′ a′ w₂′ m₂′ a₂′ : List ℕ} (n : ℕ) {b : Bool} {r : ℕ} (on : b ≡ true) (q : Swapped s (cond b n 0) (table w m a w₂ m₂ a₂) (table w′ m′ a′ w₂′ m₂′ a₂′) r) where
+      q′ : Swapped s n (table w m a w₂ m₂ a₂) (table w′ m′ a′ w₂′ m₂′ a₂′) r
       q′ = rw on at q
 
       pub cells-swapped : (i : ℕ) → i < cells s → cellAt w′ m′ a′ w₂′ m₂′ a₂′ i ≡ swapped s n (cellAt w m a w₂ m₂ a₂) i
