@@ -39,69 +39,40 @@ pub(crate) enum Run {
     Cut(Trip, usize),
 }
 
+// The lanes that are numbered 2 are the spare ones; the log holds the codes.
 fn on_records(
     run: Run,
     side: usize,
     words: &mut [u32],
     marks: &mut [u8],
     aims: &mut [u16],
-    spare_words: &mut [u32],
-    spare_marks: &mut [u8],
-    spare_aims: &mut [u16],
-    codes: &mut [u8],
+    words2: &mut [u32],
+    marks2: &mut [u8],
+    aims2: &mut [u16],
+    log: &mut [u8],
     moved: &mut [u16],
 ) -> Answer {
     match run {
         Run::Whole(trip) => match trip {
-            Trip::Concentrate => entries::concentrate(
-                side,
-                words,
-                marks,
-                aims,
-                spare_words,
-                spare_marks,
-                spare_aims,
-                codes,
-                moved,
-            ),
-            Trip::Distribute => entries::distribute(
-                side,
-                words,
-                marks,
-                aims,
-                spare_words,
-                spare_marks,
-                spare_aims,
-                codes,
-                moved,
-            ),
+            Trip::Concentrate => {
+                entries::concentrate(side, words, marks, aims, words2, marks2, aims2, log, moved)
+            }
+            Trip::Distribute => {
+                entries::distribute(side, words, marks, aims, words2, marks2, aims2, log, moved)
+            }
         },
         Run::Cut(trip, cut) => match trip {
-            Trip::Concentrate => entries::concentrate_cut(
-                side,
-                cut,
-                words,
-                marks,
-                aims,
-                spare_words,
-                spare_marks,
-                spare_aims,
-            ),
-            Trip::Distribute => entries::distribute_cut(
-                side,
-                cut,
-                words,
-                marks,
-                aims,
-                spare_words,
-                spare_marks,
-                spare_aims,
-            ),
+            Trip::Concentrate => {
+                entries::concentrate_cut(side, cut, words, marks, aims, words2, marks2, aims2)
+            }
+            Trip::Distribute => {
+                entries::distribute_cut(side, cut, words, marks, aims, words2, marks2, aims2)
+            }
         },
     }
 }
 
-// A run on the lanes of a board, with spare lanes of 7s, and logs of 9s, of which `log` entries are lent.
+// A run on the lanes of a board, with spare lanes of 7s, and logs of 9s that are lent so far.
 pub(crate) fn records_run(
     run: Run,
     side: usize,
@@ -131,8 +102,9 @@ pub(crate) fn records_run(
         &mut codes[..m],
         &mut moved[..m],
     ));
-    show::lanes(false, n, words, marks, aims);
-    show::lanes(true, n, spare_words, spare_marks, spare_aims);
+    show::lanes(n, words, marks, aims);
+    text(b"spare\n");
+    show::lanes(n, spare_words, spare_marks, spare_aims);
     show::logs(m, codes, moved);
 }
 
@@ -150,7 +122,7 @@ pub(crate) fn rank_run(side: usize, log: usize, marks: [u8; 4096]) -> [u16; 4096
     aims
 }
 
-// An operation on the first n words of a lane, with a log of 9s.
+// An operation on the first words of a lane, with a log of 9s.
 pub(crate) fn words_run(
     operation: Operation,
     side: usize,

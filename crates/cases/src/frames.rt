@@ -84,7 +84,7 @@ pub(crate) struct Gathered {
     pub(crate) aims: [u16; 4096],
 }
 
-// Of the marked cells of a board. What is written for a cell that is not marked is overwritten by the next.
+// Those of the marked cells of a board. What is written for a cell that is not marked is overwritten by the next.
 pub(crate) fn gather(side: usize, marks: [u8; 4096]) -> Gathered {
     let n = cells(side);
     let mut front = [0u8; 4096];

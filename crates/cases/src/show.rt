@@ -129,6 +129,13 @@ pub(crate) fn aims(n: usize, aims: [u16; 4096]) {
     line(b"aims", n, &wide_halves(aims));
 }
 
+// The front lanes of n cells, or the spare ones.
+pub(crate) fn lanes(n: usize, word: [u32; 4096], mark: [u8; 4096], aim: [u16; 4096]) {
+    words(n, word);
+    marks(n, mark);
+    aims(n, aim);
+}
+
 pub(crate) fn codes(n: usize, codes: [u8; 4096]) {
     line(b"codes", n, &wide_bytes(codes));
 }
@@ -139,55 +146,4 @@ pub(crate) fn logs(n: usize, log: [u8; 4096], moved: [u16; 4096]) {
         codes(n, log);
         line(b"moved", n, &wide_halves(moved));
     }
-}
-
-fn spare_name(spare: bool) {
-    if spare {
-        text(b"spare ");
-    }
-}
-
-fn rows(spare: bool, n: usize, word: [u32; 4096], mark: [u8; 4096], aim: [u16; 4096]) {
-    spare_name(spare);
-    words(n, word);
-    spare_name(spare);
-    marks(n, mark);
-    spare_name(spare);
-    aims(n, aim);
-}
-
-fn record(spare: bool, cell: usize, word: u32, mark: u32, aim: u32) {
-    if mark == 1 {
-        spare_name(spare);
-        text(b"record");
-        value(cell as u64);
-        value(word as u64);
-        value(aim as u64);
-        end();
-    }
-}
-
-fn records(spare: bool, n: usize, words: &[u32], marks: &[u32], aims: &[u32]) {
-    let mut i: usize = 0;
-    while i < n {
-        record(spare, i, entry(words, i), entry(marks, i), entry(aims, i));
-        i += 1;
-    }
-}
-
-// The front lanes or the spare lanes of n cells: by rows, or where these are too long to be read, but not the records, by records.
-pub(crate) fn lanes(
-    spare: bool,
-    n: usize,
-    words: [u32; 4096],
-    marks: [u8; 4096],
-    aims: [u16; 4096],
-) {
-    if 16 < n {
-        if n <= 256 {
-            records(spare, n, &words, &wide_bytes(marks), &wide_halves(aims));
-            return;
-        }
-    }
-    rows(spare, n, words, marks, aims);
 }

@@ -122,21 +122,9 @@ fn cut_run(operation: Operation, side: usize, cut: usize, front: Lanes) -> Strin
 }
 
 fn both_lanes(run: &Lent) -> String {
-    lanes("", &run.front) + &lanes("spare ", &run.spare)
+    lanes(&run.front) + "spare\n" + &lanes(&run.spare)
 }
 
-/// By rows, or where these are too long to be read, but not the records, by records.
-fn lanes(spare: &str, lanes: &Lanes) -> String {
-    if (17..=256).contains(&lanes.words.len()) {
-        return records_of(spare, lanes);
-    }
-    let words = row(&format!("{spare}words"), &lanes.words);
-    let marks = row(&format!("{spare}marks"), &lanes.marks);
-    words + &marks + &row(&format!("{spare}aims"), &lanes.aims)
-}
-
-fn records_of(spare: &str, lanes: &Lanes) -> String {
-    let marked = (0..lanes.marks.len()).filter(|&cell| lanes.marks[cell] == 1);
-    let values = |cell: usize| [cell, lanes.words[cell] as usize, lanes.aims[cell] as usize];
-    marked.map(|cell| line(&format!("{spare}record"), &values(cell))).collect()
+fn lanes(lanes: &Lanes) -> String {
+    row("words", &lanes.words) + &row("marks", &lanes.marks) + &row("aims", &lanes.aims)
 }

@@ -1,4 +1,4 @@
--- `cases::calls::records_run` is safe and ends.
+-- `cases::calls::records_run` is safe: a board has at most 4,096 cells, and no log more entries.
 use mathlib.Core.Path.{sym}
 use lib.Seq.{length-take-le}
 use borrow.Author.Needs.{needs}
@@ -74,6 +74,12 @@ answer-requires c κs = search needs
 lanes-requires : tie.Need-lanes-requires
 lanes-requires c κs = search needs
 
+slice-aggregate-text : tie.Need-slice-aggregate-text
+slice-aggregate-text c = search needs
+
+text-requires : tie.Need-text-requires
+text-requires c κs = search needs
+
 lanes-requires-2 : tie.Need-lanes-requires-2
 lanes-requires-2 c κs = search needs
 
@@ -110,6 +116,8 @@ records-run-spec =
     on-records-requires
     answer-requires
     lanes-requires
+    slice-aggregate-text
+    text-requires
     lanes-requires-2
     logs-requires
     returns)
