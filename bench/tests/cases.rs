@@ -3,6 +3,7 @@
 use otis_bench::frames::{self, Dice, KINDS};
 use otis_bench::model::answers::Answer;
 use otis_bench::model::board::Board;
+use otis_bench::model::cases;
 use otis_bench::model::job;
 use otis_bench::model::moves::{self, Edge, Line, DOWN, LEFT, RIGHT, SWAP, UP};
 use otis_bench::model::records::{self, Lanes, Lent, Operation};
@@ -475,16 +476,24 @@ fn jobs_that_are_accepted() {
 }
 
 #[test]
-fn the_cuts_of_the_example_job() {
-    let text = job::cuts_printed(Operation::Concentrate, EXAMPLE.as_bytes());
-    let at = |cut: &str| -> Vec<String> {
-        let wanted = format!("{cut}\t");
-        text.lines().filter(|line| line.starts_with(&wanted)).map(str::to_string).collect()
-    };
-    assert_eq!(at("0"), ["0\t1\t0\t70\t0", "0\t6\t0\t71\t1", "0\t11\t0\t72\t2"]);
-    assert_eq!(at("1"), ["1\t1\t0\t70\t0", "1\t7\t0\t71\t1", "1\t11\t0\t72\t2"]);
-    assert_eq!(at("9"), ["9\t0\t0\t70\t0", "9\t1\t0\t71\t1", "9\t2\t0\t72\t2"]);
-    assert_eq!(text.lines().count(), 30);
-    let meeting = job::cuts_printed(Operation::Concentrate, b"side\t2\n0\t1\n4\t2\n5\t3\n");
-    assert!(meeting.contains("\n1\t5\t0\t2\t1\n1\t5\t1\t3\t2\n"));
+fn the_states_of_the_example_job() {
+    let states = records::states(Operation::Concentrate, Board { side: 2 }, &ranked(2, &[1, 6, 11]).front);
+    let at = |cells: &[usize]| (standing(2, cells, &[0, 1, 2]), Lanes::empty(16));
+    assert_eq!(states.len(), 10);
+    assert_eq!(states[0], at(&[1, 6, 11]));
+    assert_eq!(states[1], at(&[1, 7, 11]));
+    assert_eq!(states[9], at(&[0, 1, 2]));
+}
+
+#[test]
+fn what_the_program_cases_has_to_print() {
+    let text = cases::printed();
+    let rank = "rank\tside\t1\tcells\t1\tlog\t2\nanswer\t0\t0\t0\t2\ncodes\t0\t0\naims\t0\n";
+    assert!(text.starts_with(&format!("case\tside 1, one cell marked\n{rank}")));
+    let shifted = "words\t0\t0\t0\t2\t0\t4\t0\t6\t0\t8\t0\t10\t0\t12\t0\t14\n";
+    let shift = "shift mesh row, zero fill\t1\tside\t2\tcells\t16\tlog\t1\nanswer\t0\t0\t1\t0\ncodes\t1\n";
+    assert!(text.contains(&format!("{shift}{shifted}")));
+    // of 256 words 1, 2, 3, .. the check is 1 + 3 + 6 + .., 256 × 257 × 258 / 6
+    assert!(text
+        .contains("group words\t16\tside\t4\tcells\t256\tlog\t0\nanswer\t4\t0\t0\t0\npart\nwords checked\t2829056\n"));
 }

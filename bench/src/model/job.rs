@@ -3,7 +3,7 @@
 use super::answers::{judge_side, refuse, Answer, Judged, Refusal};
 use super::board::Board;
 use super::moves;
-use super::records::{self, Lanes, Lent, Operation};
+use super::records::{self, Lanes, Lent};
 use super::words;
 
 const LONGEST: usize = 65_536;
@@ -18,15 +18,6 @@ pub struct Job {
 pub fn printed(input: &[u8]) -> String {
     match parse(input) {
         Ok(job) => moves_printed(&job),
-        Err(refusal) => refused_printed(refusal),
-    }
-}
-
-/// The states of concentrate, or of distribute back to the marked cells: for every cut and every record one line
-/// `cut<TAB>cell<TAB>slot<TAB>word<TAB>aim`, rising; slot 0 is the front, 1 the spare.
-pub fn cuts_printed(operation: Operation, input: &[u8]) -> String {
-    match parse(input) {
-        Ok(job) => states_printed(operation, &job),
         Err(refusal) => refused_printed(refusal),
     }
 }
@@ -149,41 +140,6 @@ fn moves_printed(job: &Job) -> String {
     text += &format!("all\t{}\t{}\t{}\n", answer.electronic, answer.swaps, moved);
     for cell in 0..job.marked.len() {
         text += &format!("{}\t{}\n", cell, lent.front.words[cell]);
-    }
-    text
-}
-
-/// The frame that distribute takes back to the marked cells of the job.
-fn to_distribute(job: &Job) -> Lanes {
-    let mut front = Lanes::empty(job.board.cells());
-    for (rank, &(cell, word)) in job.marked.iter().enumerate() {
-        front.words[rank] = word;
-        front.marks[rank] = 1;
-        front.aims[rank] = cell as u16;
-    }
-    front
-}
-
-fn states_printed(operation: Operation, job: &Job) -> String {
-    let start = match operation {
-        Operation::Concentrate => ranked(job),
-        Operation::Distribute => to_distribute(job),
-    };
-    let mut text = String::new();
-    for (cut, (front, spare)) in records::states(operation, job.board, &start).iter().enumerate() {
-        text += &state_printed(cut, front, spare);
-    }
-    text
-}
-
-fn state_printed(cut: usize, front: &Lanes, spare: &Lanes) -> String {
-    let mut text = String::new();
-    for cell in 0..front.marks.len() {
-        for (slot, lanes) in [front, spare].iter().enumerate() {
-            if lanes.marks[cell] == 1 {
-                text += &format!("{cut}\t{cell}\t{slot}\t{}\t{}\n", lanes.words[cell], lanes.aims[cell]);
-            }
-        }
     }
     text
 }

@@ -1,18 +1,16 @@
-// Runs the bench cases and prints what the entries answer and leave, a name and its values on each line.
-mod board;
-mod edges;
+// Runs every entry, on the bench cases first, and prints what it answers and leaves.
+mod calls;
 mod frames;
-mod lines;
+mod names;
 mod on_records;
 mod on_words;
-mod records_runs;
-mod words_runs;
+mod show;
 
 fn main() {
     on_records::starred();
     on_words::starred();
-    edges::all_marked();
-    edges::sides();
-    edges::distances();
-    edges::cuts();
+    on_records::edges();
+    on_words::at_every_side();
+    on_words::refused();
+    on_records::frames();
 }

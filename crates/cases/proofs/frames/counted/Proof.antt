@@ -1,31 +1,26 @@
--- `cases::frames::counted` is safe and ends: word after word.
+-- `cases::frames::counted` is safe and ends: cell after cell.
 use Prim.Native.Nat.{_≤_, _-_}
-use mathlib.Core.Path.{_≡_}
-use lib.ListN.{length}
 use borrow.Author.Needs.{needs}
 use Rattle.cases.proofs.frames.counted.Statement.{statement}
 use Rattle.cases.proofs.frames.counted.Tie as tie
 
 abbrev Inv-loop : tie.InvT-loop
-Inv-loop first words₀ i₀ words i = (i ≤ 4096) × (length words ≡ 4096)
+Inv-loop first words₀ word₀ i₀ words word i = i ≤ 4096
 
 abbrev μ-loop : tie.MeasureT-loop
-μ-loop first words₀ i₀ words i = 4096 - i
+μ-loop first words₀ word₀ i₀ words word i = 4096 - i
 
 loop-holds : tie.Need-loop-holds Inv-loop μ-loop
 loop-holds c = search needs
-
-cast-words : tie.Need-cast-words Inv-loop μ-loop
-cast-words c = search needs
-
-add-words : tie.Need-add-words Inv-loop μ-loop
-add-words c = search needs
 
 mul-words : tie.Need-mul-words Inv-loop μ-loop
 mul-words c = search needs
 
 array-write-words : tie.Need-array-write-words Inv-loop μ-loop
 array-write-words c = search needs
+
+wrapping-add-u32-requires : tie.Need-wrapping-add-u32-requires Inv-loop μ-loop
+wrapping-add-u32-requires c κs = search needs
 
 add-i : tie.Need-add-i Inv-loop μ-loop
 add-i c = search needs
@@ -46,10 +41,9 @@ counted-spec =
     Inv-loop
     μ-loop
     loop-holds
-    cast-words
-    add-words
     mul-words
     array-write-words
+    wrapping-add-u32-requires
     add-i
     loop-less
     loop-again

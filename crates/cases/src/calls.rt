@@ -1,0 +1,153 @@
+// Each entry is called here and nowhere else; its run is printed: what is called, its answer, and what it leaves.
+use crate::frames::cells;
+use crate::frames::within;
+use crate::names::operation_name;
+use crate::names::run_name;
+use crate::show;
+use crate::show::text;
+use crate::show::value;
+use answers::Answer;
+use clearing::zero_words;
+use lists::Trip;
+use ranking::rank;
+use shifts::Axis;
+use shifts::Edge;
+use stretches::group_words;
+use stretches::group_words_answer;
+
+// An operation on words.
+pub(crate) enum Operation {
+    Broadcast(usize),
+    DataSum,
+    PrefixSum,
+    Shift(Axis, Edge, i32),
+}
+
+fn on_words(operation: Operation, side: usize, words: &mut [u32], codes: &mut [u8]) -> Answer {
+    match operation {
+        Operation::Broadcast(cell) => words::broadcast(side, cell, words, codes),
+        Operation::DataSum => words::data_sum(side, words, codes),
+        Operation::PrefixSum => words::prefix_sum(side, words, codes),
+        Operation::Shift(axis, edge, k) => words::shift(side, axis, edge, k, words, codes),
+    }
+}
+
+// A run of records, whole or up to a cut.
+pub(crate) enum Run {
+    Whole(Trip),
+    Cut(Trip, usize),
+}
+
+// The lanes that are numbered 2 are the spare ones; the log holds the codes.
+fn on_records(
+    run: Run,
+    side: usize,
+    words: &mut [u32],
+    marks: &mut [u8],
+    aims: &mut [u16],
+    words2: &mut [u32],
+    marks2: &mut [u8],
+    aims2: &mut [u16],
+    log: &mut [u8],
+    moved: &mut [u16],
+) -> Answer {
+    match run {
+        Run::Whole(trip) => match trip {
+            Trip::Concentrate => {
+                records::concentrate(side, words, marks, aims, words2, marks2, aims2, log, moved)
+            }
+            Trip::Distribute => {
+                records::distribute(side, words, marks, aims, words2, marks2, aims2, log, moved)
+            }
+        },
+        Run::Cut(trip, cut) => match trip {
+            Trip::Concentrate => {
+                records::concentrate_cut(side, cut, words, marks, aims, words2, marks2, aims2)
+            }
+            Trip::Distribute => {
+                records::distribute_cut(side, cut, words, marks, aims, words2, marks2, aims2)
+            }
+        },
+    }
+}
+
+// A run on the lanes of a board, with spare lanes of 7s, and logs of 9s that are lent so far.
+pub(crate) fn records_run(
+    run: Run,
+    side: usize,
+    log: usize,
+    mut words: [u32; 4096],
+    mut marks: [u8; 4096],
+    mut aims: [u16; 4096],
+) {
+    let n = cells(side);
+    let m = within(log);
+    let mut spare_words = [7u32; 4096];
+    let mut spare_marks = [7u8; 4096];
+    let mut spare_aims = [7u16; 4096];
+    let mut codes = [9u8; 4096];
+    let mut moved = [9u16; 4096];
+    run_name(run);
+    show::lent(side, n, m);
+    show::answer(on_records(
+        run,
+        side,
+        &mut words[..n],
+        &mut marks[..n],
+        &mut aims[..n],
+        &mut spare_words[..n],
+        &mut spare_marks[..n],
+        &mut spare_aims[..n],
+        &mut codes[..m],
+        &mut moved[..m],
+    ));
+    show::lanes(n, words, marks, aims);
+    text(b"spare\n");
+    show::lanes(n, spare_words, spare_marks, spare_aims);
+    show::logs(m, codes, moved);
+}
+
+// Rank on the marks of a board, with a log of 9s: gives the aims as well.
+pub(crate) fn rank_run(side: usize, log: usize, marks: [u8; 4096]) -> [u16; 4096] {
+    let n = cells(side);
+    let m = within(log);
+    let mut aims = [9u16; 4096];
+    let mut codes = [9u8; 4096];
+    text(b"rank");
+    show::lent(side, n, m);
+    show::answer(rank(side, &marks[..n], &mut aims[..n], &mut codes[..m]));
+    show::codes(m, codes);
+    show::aims(n, aims);
+    aims
+}
+
+// An operation on the first words of a lane, with a log of 9s.
+pub(crate) fn words_run(
+    operation: Operation,
+    side: usize,
+    lane: usize,
+    log: usize,
+    mut words: [u32; 4096],
+) {
+    let n = within(lane);
+    let m = within(log);
+    let mut codes = [9u8; 4096];
+    operation_name(operation);
+    show::lent(side, n, m);
+    show::answer(on_words(operation, side, &mut words[..n], &mut codes[..m]));
+    show::codes(m, codes);
+    show::words(n, words);
+}
+
+// The stretch of a group as it is handed back, and all words after the caller has cleared it.
+pub(crate) fn group_run(side: usize, group: usize, lane: usize, mut words: [u32; 4096]) {
+    let n = within(lane);
+    text(b"group words");
+    value(group as u64);
+    show::lent(side, n, 0);
+    show::answer(group_words_answer(side, group, &words[..n]));
+    let part = group_words(side, group, &mut words[..n]);
+    show::part(&part[..]);
+    zero_words(part);
+    show::words(n, words);
+}
