@@ -102,14 +102,15 @@ module _ {s : ℕ} {w m a w₂ m₂ a₂ codes moved : List ℕ} (b : Board s w 
 
   rank-takes : {r : Answer} → r ≡ verdict (rankCases s m (length a) (length codes)) (acceptedBy (prefixSumRuns s)) → r .number ≡ 0
   rank-takes e =
-      ap (λ (x : Answer). x .number) (e ∙ rank-accepts s (b .side) m long (b .marked) (length a) (length codes) (acceptedBy (prefixSumRuns s)) (b .sized .aims) (omega (arith, b .codes-room)))
+      ap (λ (x : Answer). x .number)
+      (e ∙ rank-accepts s (b .side) m long (b .marked) (length a) (length codes) (acceptedBy (prefixSumRuns s)) (b .sized .aims) (omega (arith, b .codes-room)))
 
   concentrate-takes : (codes′ : List ℕ) {r : Answer} → length codes′ ≡ 51
       → r ≡ verdict (fullCases Concentrate s (sizesOf w w₂ m₂ a₂) m (ranks s m) (length codes′) (length moved)) (acceptedBy (concentrateRuns s)) → r .number ≡ 0
   concentrate-takes codes′ c e =
-      let n = length codes′ in
+      let end = acceptedBy (concentrateRuns s) in
       ap (λ (x : Answer). x .number)
-      (e ∙ concentrate-accepts s (b .side) m long (b .marked) w a w₂ m₂ a₂ n (length moved) (acceptedBy (concentrateRuns s)) (b .sized) (omega arith) (omega (arith, b .moved-room)))
+      (e ∙ concentrate-accepts s (b .side) m long (b .marked) w a w₂ m₂ a₂ (length codes′) (length moved) end (b .sized) (omega arith) (omega (arith, b .moved-room)))
 
   -- a log keeps its length
   log-long : (numbers log : List ℕ) → length numbers ≤ length log → length (inFront numbers log) ≡ length log

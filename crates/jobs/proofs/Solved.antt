@@ -19,7 +19,8 @@ use Rattle.jobs.specs.Outputs.{homeOf, movedIn, movedCounts}
 abbrev pub changing : ℕ → ℕ → (ℕ → ℕ) → ℕ → ℕ
 changing s b home k = sum b (λ r. cond (eqb (stands s k r (home r)) (stands s (suc k) r (home r))) 0 1)
 
-pub counts-same : (s : ℕ) (es : List Marked) (home : ℕ → ℕ) → ((r : ℕ) → r < length es → home r ≡ homeOf es r) → entries (changing s (length es) home) 0 (totalMoves s) ≡ movedCounts s es
+pub counts-same : (s : ℕ) (es : List Marked) (home : ℕ → ℕ) → ((r : ℕ) → r < length es → home r ≡ homeOf es r)
+    → entries (changing s (length es) home) 0 (totalMoves s) ≡ movedCounts s es
 counts-same s es home homes =
     entries-all (movedIn s es) (totalMoves s) 0 (entries (changing s (length es) home) 0 (totalMoves s)) (length-entries _ 0 (totalMoves s)) each
     ∙ ap (entries (movedIn s es) 0) (sym (concentrate-length s))

@@ -166,10 +166,13 @@ module _ {s : ℕ} (pos : 0 < s) {marks aims : List ℕ} (long : length marks �
   records-ranked = start-aims s words marks aims ranked
 
   -- after n moves: exactly these records, each once, each where the move rule takes it, in range, two in a cell at most
-  pub present-after : (n : ℕ) {T : ℕ → Cell} → Stood Concentrate s n words marks aims T → Present s (countIn s marks) (recordOf Concentrate s words marks aims) (cellOf Concentrate s marks aims n) T
+  pub present-after : (n : ℕ) {T : ℕ → Cell} → Stood Concentrate s n words marks aims T
+      → Present s (countIn s marks) (recordOf Concentrate s words marks aims) (cellOf Concentrate s marks aims n) T
   present-after n o =
-      present (start-rising s words marks aims ranked) (fits s (countIn s marks) pos (markedCell marks (cells s)) (start-rises s words marks aims ranked) (start-inside s words marks aims ranked) n)
-      (below s (countIn s marks) pos (markedCell marks (cells s)) (start-rises s words marks aims ranked) (start-inside s words marks aims ranked) n) o
+      let rises = start-rises s words marks aims ranked in
+      let inside = start-inside s words marks aims ranked in
+      present (start-rising s words marks aims ranked) (fits s (countIn s marks) pos (markedCell marks (cells s)) rises inside n)
+      (below s (countIn s marks) pos (markedCell marks (cells s)) rises inside n) o
 
   -- never three in a cell
   pub two-at-most : (n i j k : ℕ) → i < j → j < k → k < countIn s marks → cellOf Concentrate s marks aims n i ≡ cellOf Concentrate s marks aims n j
@@ -180,7 +183,8 @@ module _ {s : ℕ} (pos : 0 < s) {marks aims : List ℕ} (long : length marks �
   ended : {T : ℕ → Cell} → Stood Concentrate s (totalMoves s) words marks aims T → Shows s (countIn s marks) (recordOf Concentrate s words marks aims) (λ r. r) T
   ended o = shows-same (λ r h. at-the-end s (countIn s marks) pos (markedCell marks (cells s)) (start-rises s words marks aims ranked) (start-inside s words marks aims ranked) r h) o
 
-  pub end-alone : {T : ℕ → Cell} → Stood Concentrate s (totalMoves s) words marks aims T → (r : ℕ) → r < countIn s marks → r < cells s → T r ≡ alone (recordOf Concentrate s words marks aims r)
+  pub end-alone : {T : ℕ → Cell} → Stood Concentrate s (totalMoves s) words marks aims T
+      → (r : ℕ) → r < countIn s marks → r < cells s → T r ≡ alone (recordOf Concentrate s words marks aims r)
   end-alone o r h u = alone-at (start-rising s words marks aims ranked) (λ i j l _. l) (ended o) r h u
 
   pub end-empty : {T : ℕ → Cell} → Stood Concentrate s (totalMoves s) words marks aims T → (j : ℕ) → j < cells s → countIn s marks ≤ j → T j ≡ empty
@@ -205,7 +209,8 @@ module _ {s : ℕ} (pos : 0 < s) {marks aims : List ℕ} (long : length marks �
   aimed : Aimed s (countIn s marks) marks aims
   aimed = good-aimed s marks aims long good
 
-  pub distribute-present : (n : ℕ) {T : ℕ → Cell} → Stood Distribute s n words marks aims T → Present s (countIn s marks) (recordOf Distribute s words marks aims) (cellOf Distribute s marks aims n) T
+  pub distribute-present : (n : ℕ) {T : ℕ → Cell} → Stood Distribute s n words marks aims T
+      → Present s (countIn s marks) (recordOf Distribute s words marks aims) (cellOf Distribute s marks aims n) T
   distribute-present n o =
       present (first-rising s words marks aims aimed) (fits s (countIn s marks) pos (λ r. getD aims r 0) (aimed .rising) (aimed .below) (totalMoves s - n))
       (below s (countIn s marks) pos (λ r. getD aims r 0) (aimed .rising) (aimed .below) (totalMoves s - n)) o
@@ -214,10 +219,12 @@ module _ {s : ℕ} (pos : 0 < s) {marks aims : List ℕ} (long : length marks �
   arrived o = shows-same (λ r h. rw (sub-self (totalMoves s))) o
 
   -- at the end each is alone in the cell that its aim names, and every cell that no aim names is empty
-  pub distribute-alone : {T : ℕ → Cell} → Stood Distribute s (totalMoves s) words marks aims T → (r : ℕ) → r < countIn s marks → T (getD aims r 0) ≡ alone (recordOf Distribute s words marks aims r)
+  pub distribute-alone : {T : ℕ → Cell} → Stood Distribute s (totalMoves s) words marks aims T
+      → (r : ℕ) → r < countIn s marks → T (getD aims r 0) ≡ alone (recordOf Distribute s words marks aims r)
   distribute-alone o r h = alone-at (first-rising s words marks aims aimed) (aims-rise s words marks aims aimed) (arrived o) r h (aimed .below r h)
 
-  pub distribute-empty : {T : ℕ → Cell} → Stood Distribute s (totalMoves s) words marks aims T → (j : ℕ) → j < cells s → ((r : ℕ) → r < countIn s marks → getD aims r 0 ≡ j → ⊥) → T j ≡ empty
+  pub distribute-empty : {T : ℕ → Cell} → Stood Distribute s (totalMoves s) words marks aims T
+      → (j : ℕ) → j < cells s → ((r : ℕ) → r < countIn s marks → getD aims r 0 ≡ j → ⊥) → T j ≡ empty
   distribute-empty o j u n = none-at (first-rising s words marks aims aimed) (aims-rise s words marks aims aimed) (arrived o) j u n
 
 -- the same of what the entries promise: of the lanes of an accepted run, whole or up to a cut

@@ -119,7 +119,9 @@ module _ (s : ℕ) (words marks aims : List ℕ) where
     start-rising = record { marked = λ r h. at r h .marked; rising = λ i j l h. rw (start-aims i (omega arith), start-aims j h) l }
 
     pub start-shows : {C : ℕ → Cell} → Cleared s words marks aims C → Shows s b (λ r. here (start r)) start C
-    start-shows {C} e = alone-shows start-rising (fits-alone (λ i j u l g. omega (arith, ap (rankIn marks) g, at i (omega arith) .rank, at j u .rank))) (λ j u. go j u (same? (getD marks j 0) 1))
+    start-shows {C} e =
+        alone-shows start-rising (fits-alone (λ i j u l g. omega (arith, ap (rankIn marks) g, at i (omega arith) .rank, at j u .rank)))
+        (λ j u. go j u (same? (getD marks j 0) 1))
       where
         go : (j : ℕ) → j < cells s → (getD marks j 0 ≡ 1) ⊎ (getD marks j 0 ≡ 1 → ⊥) → Holds (λ r. here (start r)) (At b start j) (C j)
         go j u (inl m) =

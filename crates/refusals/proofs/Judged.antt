@@ -25,7 +25,12 @@ pub record Judging (trip : Trip) (s : ℕ) (marks aims : List ℕ) (rank previou
   pub searching : Searching (badAim trip s marks aims) (length marks) i
 
 pub judging-start : (trip : Trip) (s : ℕ) (marks aims : List ℕ) → Judging trip s marks aims 0 0 0
-judging-start trip s marks aims = record { rank-is = refl; few = omega arith; previous-is = λ h. absurd (omega arith); searching = searching-start (badAim trip s marks aims) (length marks) }
+judging-start trip s marks aims = record {
+  rank-is = refl;
+  few = omega arith;
+  previous-is = λ h. absurd (omega arith);
+  searching = searching-start (badAim trip s marks aims) (length marks);
+}
 
 -- before the first cell the aim before it is not looked at
 bad-same : (trip : Trip) (s i rank mark aim p q : ℕ) → (0 < i → p ≡ q) → badIn trip s i rank mark aim p ≡ badIn trip s i rank mark aim q

@@ -46,8 +46,10 @@ returns-2 c =
     let a = s .args in
     let words = a .words .now in
     let read = toZ-ofZ w32 (a .k) (s .fits .k) in
-    on-words (a .side) (shiftRuns (a .side) (a .axis) (a .edge) (a .k)) (distanceCase (a .side) (a .k) ∷ []) words (a .codes .now) (shiftWords (a .side) (a .axis) (a .edge) (a .k) words)
-    refl (rw read at (j .judge-shift .ensures)) (l .before .before .if1 .left) (λ b n. rw (b, not-false (within (a .side) (distanceOf (a .k))) (n .0)) at (rw read at (l .shift-words .ensures)))
+    let list = shiftRuns (a .side) (a .axis) (a .edge) (a .k) in
+    on-words (a .side) list (distanceCase (a .side) (a .k) ∷ []) words (a .codes .now) (shiftWords (a .side) (a .axis) (a .edge) (a .k) words)
+    refl (rw read at (j .judge-shift .ensures)) (l .before .before .if1 .left)
+    (λ b n. rw (b, not-false (within (a .side) (distanceOf (a .k))) (n .0)) at (rw read at (l .shift-words .ensures)))
     (rw read at (w .before .before .shift-runs .ensures)) (w .write-codes .ensures)
 
 pub shift-spec : {M : Type 1} → statement M

@@ -35,13 +35,13 @@ total-moves-requires c κs = tt
 
 perform-requires : tie.Need-perform-requires
 perform-requires c κs =
-    let b = c .before .before .before .before .before .before in
-    let t = b .before in
+    let t = c .before .before .before .before .before .before .before in
     let j = t .before .before .before .before .before .before .before .before in
     let a = j .before .before .before .before .before .before .before .before .before .before .before .args in
     let sizes = sizesOf (a .words .now) (a .spare-words .now) (a .spare-marks .now) (a .spare-aims .now) in
     let e = j .judge-full .ensures in
-    let k = full-known (a .trip) (a .side) sizes (a .marks .now) (a .aims .now) (length (a .codes .now)) (length (a .moved .now)) e (t .before .before .before .before .before .before .if1 .left) in
+    let z = t .before .before .before .before .before .before .if1 .left in
+    let k = full-known (a .trip) (a .side) sizes (a .marks .now) (a .aims .now) (length (a .codes .now)) (length (a .moved .now)) e z in
     (k .fits .side, (fitting-sized (k .fits), (omega (arith, total-on-board (a .side) _ (k .fits .side) (t .total-moves .ensures)), k .good)))
 
 same-length-3 : tie.Need-same-length-3
@@ -74,7 +74,8 @@ same-length-8 c =
 
 same-length-9 : tie.Need-same-length-9
 same-length-9 c =
-    let w = c .before .before .before .before .before .before .before .before .before .before .before .before .before .before .before .before .before .before .before .before .before .before .before .before .before in
+    let p = c .before .before .before .before .before .before .before .before .before .before .before .before .before .before in
+    let w = p .before .before .before .before .before .before .before .before .before .before .before in
     w .write-codes .kept .1 .0
 
 same-length-10 : tie.Need-same-length-10
