@@ -7,7 +7,7 @@ use native.Mathlib.Numerals.{add-one}
 use native.Mathlib.Omega.{arith}
 use lib.ListN.{length, getD, drop, drop-of-length-le}
 use lib.Seq.{drop-cons}
-use Rattle.logs.specs.declared.Run.{Run}
+use Rattle.runs.specs.declared.Run.{Run}
 
 -- counting run after run, modulo m: what is counted before run q, with what is to come, is the count of the whole
 pub record Counting (whole : List Run → ℕ) (m : ℕ) (rs : List Run) (q sum : ℕ) : Type 0 where

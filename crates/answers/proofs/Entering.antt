@@ -7,9 +7,9 @@ use native.Mathlib.Omega.{arith}
 use lib.ListN.{length, drop, length-map}
 use lib.Seq.{sets, sets-eq}
 use borrow.Author.Tests.{ltb-false}
-use Rattle.logs.specs.declared.Run.{Run}
+use Rattle.runs.specs.declared.Run.{Run}
 use Rattle.array.specs.Moves.{codeOf}
-use Rattle.logs.specs.Runs.{moves, codes}
+use Rattle.runs.specs.Runs.{moves, codes}
 use Rattle.answers.specs.declared.Answer.{Answer}
 use Rattle.answers.specs.declared.Case.{Case}
 use Rattle.answers.specs.Answers.{acceptedBy, verdict, logCase}

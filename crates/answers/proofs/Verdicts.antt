@@ -11,9 +11,9 @@ use borrow.Author.Tests.{not-false, eq-eqb, eqb-true, le-ltb, ltb-true}
 use Rattle.laws.proofs.Bools.{both-left, both-right}
 use Rattle.answers.specs.declared.Answer.{Answer}
 use Rattle.answers.specs.declared.Case.{Case}
-use Rattle.logs.specs.declared.Run.{Run}
+use Rattle.runs.specs.declared.Run.{Run}
 use Rattle.array.specs.Cells.{isSide, cells}
-use Rattle.logs.specs.Runs.{moves, electronic, swaps}
+use Rattle.runs.specs.Runs.{moves, electronic, swaps}
 use Rattle.answers.specs.Answers.{accepted, acceptedBy, refusing, verdict, sideCase, laneCase, logCase}
 
 -- no case of a table applies, and every case is a refusal

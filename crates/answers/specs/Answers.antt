@@ -6,9 +6,9 @@ use lib.Dec.{ltb, eqb}
 use lib.ListN.{length}
 use Rattle.answers.specs.declared.Answer.{Answer}
 use Rattle.answers.specs.declared.Case.{Case}
-use Rattle.logs.specs.declared.Run.{Run}
+use Rattle.runs.specs.declared.Run.{Run}
 use Rattle.array.specs.Cells.{isSide, cells}
-use Rattle.logs.specs.Runs.{moves, electronic, swaps}
+use Rattle.runs.specs.Runs.{moves, electronic, swaps}
 
 abbrev pub refused : ℕ → ℕ → Answer
 refused number place = record { number = number; place = place; electronic = 0; swaps = 0 }

@@ -4,8 +4,8 @@ use mathlib.Core.Path.{_≡_}
 use mathlib.Core.List.{List, _++_}
 use lib.ListN.{length, drop}
 use Rattle.laws.specs.Lent.{Lent, old, new}
-use Rattle.logs.specs.declared.Run.{Run}
-use Rattle.logs.specs.Runs.{codes}
+use Rattle.runs.specs.declared.Run.{Run}
+use Rattle.runs.specs.Runs.{codes}
 use Rattle.answers.specs.declared.Answer.{Answer}
 use Rattle.answers.specs.declared.Case.{Case}
 use Rattle.answers.specs.Answers.{verdict, acceptedBy}

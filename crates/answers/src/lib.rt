@@ -1,16 +1,16 @@
 // How an entry answers: the first of its cases that applies, in the order of their numbers, or that it was accepted.
 use array::cells::is_cells;
 use array::cells::is_side;
-use logs::Found;
-use logs::Run;
-use logs::electronic_in;
-use logs::step_at;
-use logs::swaps_in;
+use runs::Found;
+use runs::Run;
+use runs::electronic_in;
+use runs::step_at;
+use runs::swaps_in;
 ghost use mathlib.Core.Path.{_≡_};
 ghost use mathlib.Core.List.{[], _∷_};
 ghost use lib.Dec.{ltb};
 ghost use lib.ListN.{length as lengthOf};
-ghost use Rattle.logs.specs.Runs.{moves};
+ghost use Rattle.runs.specs.Runs.{moves};
 ghost use Rattle.answers.specs.Answers.{refused as refusedOf, accepted as acceptedOf, acceptedBy, caseOf, refusing as refusingOf, verdict, sideCase, laneCase, logCase};
 
 // The refusal number, or 0; the place that it names; the moves that were made.

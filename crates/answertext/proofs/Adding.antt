@@ -6,7 +6,7 @@ use native.Mathlib.Nat.{mod-add-mod}
 use native.Mathlib.Numerals.{add-one}
 use native.Mathlib.Omega.{arith}
 use Rattle.laws.specs.Sums.{sum}
-use Rattle.logs.specs.Runs.{electronicIn, swapsIn}
+use Rattle.runs.specs.Runs.{electronicIn, swapsIn}
 use Rattle.array.specs.declared.moves.LogLine.{LogLine}
 use Rattle.array.specs.declared.moves.Logged.{Logged}
 use Rattle.array.specs.declared.moves.Logged.the-variants.{Line, NoMove}

@@ -6,7 +6,7 @@ use Rattle.laws.specs.Sums.{sum}
 use Rattle.array.specs.declared.moves.Logged.{Logged}
 use Rattle.array.specs.declared.moves.Logged.the-variants.{Line, NoMove}
 use Rattle.array.specs.Moves.{loggedOf}
-use Rattle.logs.specs.Runs.{electronicIn, swapsIn}
+use Rattle.runs.specs.Runs.{electronicIn, swapsIn}
 use Rattle.answertext.specs.declared.Totals.{Totals}
 
 -- how many lines a log has: as many as it has both codes and counts for

@@ -2,7 +2,7 @@
 use Prim.Native.Nat.{ℕ, _+_, _-_, _*_, _/_, _%_}
 use mathlib.Core.Bool.{Bool, cond, _&&_}
 use mathlib.Core.Option.{Option, none, some}
-use lib.Dec.{ltb, leb}
+use lib.Dec.{ltb, leb, eqb}
 use Rattle.array.specs.declared.moves.Way.{Way}
 use Rattle.array.specs.declared.moves.Way.the-variants.{Right, Left, Up, Down}
 
@@ -41,6 +41,10 @@ partner s i = cell s (place s i) (group s i)
 -- i is a cell of a board
 abbrev pub isCell : ℕ → ℕ → Bool
 isCell s i = isSide s && ltb i (cells s)
+
+-- a lane of n entries is one of a board
+abbrev pub isBoard : ℕ → ℕ → Bool
+isBoard s n = isSide s && eqb n (cells s)
 
 -- how many cells lie ahead of cell i one way, up to the edge of its group
 abbrev pub ahead : ℕ → Way → ℕ → ℕ

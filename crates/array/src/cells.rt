@@ -3,7 +3,7 @@ ghost use mathlib.Core.Path.{_≡_};
 ghost use mathlib.Core.Bool.{_&&_};
 ghost use Prim.Native.Nat.{_<_};
 ghost use lib.Dec.{eqb};
-ghost use Rattle.array.specs.Cells.{isSide, isCell, cells as cellsOf};
+ghost use Rattle.array.specs.Cells.{isSide, isCell, isBoard, cells as cellsOf};
 
 pub fn is_side(side: usize) -> bool
     ensures { λ r. ⌜ r ≡ isSide side ⌝ }
@@ -28,6 +28,16 @@ pub fn is_cell(side: usize, cell: usize) -> bool
     if is_side(side) {
         let groups = side * side;
         return cell < groups * groups;
+    }
+    false
+}
+
+// A lane of n entries is one of a board.
+pub fn is_board(side: usize, n: usize) -> bool
+    ensures { λ r. ⌜ r ≡ isBoard side n ⌝ }
+{
+    if is_side(side) {
+        return is_cells(side, n);
     }
     false
 }

@@ -10,8 +10,8 @@ use answers::Answer;
 use clearing::zero_words;
 use lists::Trip;
 use ranking::rank;
-use shifts::Axis;
-use shifts::Edge;
+use shiftlists::Axis;
+use shiftlists::Edge;
 use stretches::group_words;
 use stretches::group_words_answer;
 

@@ -5,8 +5,8 @@ use crate::show::distance;
 use crate::show::text;
 use crate::show::value;
 use lists::Trip;
-use shifts::Axis;
-use shifts::Edge;
+use shiftlists::Axis;
+use shiftlists::Edge;
 
 fn axis_name(axis: Axis) {
     match axis {

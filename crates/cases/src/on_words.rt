@@ -4,8 +4,8 @@ use crate::calls::group_run;
 use crate::calls::words_run;
 use crate::frames::cells;
 use crate::frames::counted;
-use shifts::Axis;
-use shifts::Edge;
+use shiftlists::Axis;
+use shiftlists::Edge;
 ghost use Prim.Native.Nat.{_≤_};
 
 pub(crate) fn starred() {

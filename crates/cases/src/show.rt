@@ -1,7 +1,7 @@
 // What the program writes. A line is a name and its values, parted by tabs.
 use answers::Answer;
 use libc::STDOUT_FILENO;
-use shifts::distance_of;
+use shiftlists::distance_of;
 use std::num::wrapping_add_u32;
 
 pub(crate) fn text(bytes: &[u8]) {

@@ -17,7 +17,7 @@ use Rattle.lists.specs.declared.Trip.{Trip}
 use Rattle.slots.specs.declared.Rec.{Rec}
 use Rattle.mesh.specs.declared.Leg.{Leg}
 use Rattle.mesh.specs.Lines.{digitOf, waitOf, stepOf, reach, headOf}
-use Rattle.mesh.specs.Mesh.{strideOf, ruleOf}
+use Rattle.mesh.specs.Mesh.{strideOf, lineRuleOf}
 use Rattle.mover.specs.Runs.{lowAfter, isLate, legOf}
 use Rattle.course.proofs.Lines.{spot, onLine, atCell, own-spot, spot<, spot-line, line-line, reach<, head<}
 
@@ -90,28 +90,28 @@ module _ (trip : Trip) (s swaps times made : ℕ) (some : 0 < s) where
   leg w = legOf trip s swaps w times made
 
   on-line : (w : Way) (x : Rec) (j i : ℕ)
-      → going s w (waitOf (ruleOf (leg w)) j) (headed s (lowAfter trip swaps) (x .aim)) i ≡ onLine (leg w) i (stepOf (ruleOf (leg w)) (headOf (ruleOf (leg w)) x) j (spot (leg w) i))
+      → going s w (waitOf (lineRuleOf (leg w)) j) (headed s (lowAfter trip swaps) (x .aim)) i ≡ onLine (leg w) i (stepOf (lineRuleOf (leg w)) (headOf (lineRuleOf (leg w)) x) j (spot (leg w) i))
   on-line Right x j i =
-      rw (head-digit s some Right (lowAfter trip swaps) (x .aim), place-digit s some Right i) (one-up (leg Right) some i _ (waitOf (ruleOf (leg Right)) j))
+      rw (head-digit s some Right (lowAfter trip swaps) (x .aim), place-digit s some Right i) (one-up (leg Right) some i _ (waitOf (lineRuleOf (leg Right)) j))
   on-line Left x j i =
-      rw (head-digit s some Left (lowAfter trip swaps) (x .aim), place-digit s some Left i) (one-down (leg Left) some i _ (waitOf (ruleOf (leg Left)) j))
+      rw (head-digit s some Left (lowAfter trip swaps) (x .aim), place-digit s some Left i) (one-down (leg Left) some i _ (waitOf (lineRuleOf (leg Left)) j))
   on-line Up x j i =
-      rw (head-digit s some Up (lowAfter trip swaps) (x .aim), place-digit s some Up i) (one-down (leg Up) some i _ (waitOf (ruleOf (leg Up)) j))
+      rw (head-digit s some Up (lowAfter trip swaps) (x .aim), place-digit s some Up i) (one-down (leg Up) some i _ (waitOf (lineRuleOf (leg Up)) j))
   on-line Down x j i =
-      rw (head-digit s some Down (lowAfter trip swaps) (x .aim), place-digit s some Down i) (one-up (leg Down) some i _ (waitOf (ruleOf (leg Down)) j))
+      rw (head-digit s some Down (lowAfter trip swaps) (x .aim), place-digit s some Down i) (one-up (leg Down) some i _ (waitOf (lineRuleOf (leg Down)) j))
 
   -- move after move
   pub walked : (w : Way) (x : Rec) (at : ℕ → ℕ) (m : ℕ)
       → ((j : ℕ) → j < m → at (suc j) ≡ going s w (waitFor trip (times - j)) (headed s (lowAfter trip swaps) (x .aim)) (at j))
-      → at m ≡ atCell (legOf trip s swaps w times made) (headOf (ruleOf (legOf trip s swaps w times made)) x) (at 0) m
+      → at m ≡ atCell (legOf trip s swaps w times made) (headOf (lineRuleOf (legOf trip s swaps w times made)) x) (at 0) m
   unfolding reach
   walked w x at zero h = sym (own-spot (leg w) some (at 0))
   walked w x at (suc m) h =
-      let q< = reach< (leg w) some (headOf (ruleOf (leg w)) x) (spot (leg w) (at 0)) m (head< (leg w) some x) (spot< (leg w) some (at 0)) in
+      let q< = reach< (leg w) some (headOf (lineRuleOf (leg w)) x) (spot (leg w) (at 0)) m (head< (leg w) some x) (spot< (leg w) some (at 0)) in
       h m (omega arith)
       ∙ ap (λ (n : ℕ). going s w (cond (isLate trip) n 0) (headed s (lowAfter trip swaps) (x .aim)) (at m)) (omega arith)
       ∙ on-line w x m (at m)
-      ∙ ap (λ (i : ℕ). onLine (leg w) i (stepOf (ruleOf (leg w)) (headOf (ruleOf (leg w)) x) m (spot (leg w) i))) (walked w x at m (λ j u. h j (omega arith)))
-      ∙ ap (λ (p : ℕ). onLine (leg w) (atCell (leg w) (headOf (ruleOf (leg w)) x) (at 0) m) (stepOf (ruleOf (leg w)) (headOf (ruleOf (leg w)) x) m p))
+      ∙ ap (λ (i : ℕ). onLine (leg w) i (stepOf (lineRuleOf (leg w)) (headOf (lineRuleOf (leg w)) x) m (spot (leg w) i))) (walked w x at m (λ j u. h j (omega arith)))
+      ∙ ap (λ (p : ℕ). onLine (leg w) (atCell (leg w) (headOf (lineRuleOf (leg w)) x) (at 0) m) (stepOf (lineRuleOf (leg w)) (headOf (lineRuleOf (leg w)) x) m p))
       (spot-line (leg w) some (at 0) _ q<)
       ∙ line-line (leg w) some (at 0) _ _ q<

@@ -14,7 +14,7 @@ use Rattle.slots.specs.Cells.{nothing, joined}
 use Rattle.mesh.specs.declared.Leg.{Leg}
 use Rattle.mesh.specs.Lines.{endOf, leaves, noneLeaves, isStill, landed, laid}
 use Rattle.mesh.proofs.Laying.{stays-all}
-use Rattle.mesh.specs.Mesh.{ruleOf, ranOn}
+use Rattle.mesh.specs.Mesh.{lineRuleOf, ranOn}
 use Rattle.course.specs.Showing.{contentOf}
 use Rattle.course.proofs.Holds.{Holds, hold0, hold1, hold2, only, same-holds, holds-one, passes, join-none, joins, joins-both}
 use Rattle.course.proofs.Lines.{spot, onLine, spot<, own-spot, spot-line, line-line, end<}
@@ -59,16 +59,16 @@ module _ {R : ℕ → Rec} {b : ℕ} (z : Rising b R) (pos : ℕ → ℕ) (f : F
   content-holds j = content-some b (omega arith) j
 
 -- a record that does not leave ends where it is
-staying : (l : Leg) (p : ℕ) (x : Rec) → x .mark ≡ 1 → leaves (ruleOf l) p x ≡ false → endOf (ruleOf l) p x ≡ p
+staying : (l : Leg) (p : ℕ) (x : Rec) → x .mark ≡ 1 → leaves (lineRuleOf l) p x ≡ false → endOf (lineRuleOf l) p x ≡ p
 unfolding leaves
-staying l p x e f = eqb-true (endOf (ruleOf l) p x) p (not-false _ (rw e at f))
+staying l p x e f = eqb-true (endOf (lineRuleOf l) p x) p (not-false _ (rw e at f))
 
 -- what is put down of a cell is what of it ends here
 both-landed : (l : Leg) (p q : ℕ) (x c : Cell)
-    → landed (ruleOf l) p q (x .spare) (landed (ruleOf l) p q (x .front) c)
-    ≡ joined (joined c (only (eqb (endOf (ruleOf l) q (x .front)) p) (eqb (endOf (ruleOf l) q (x .spare)) p) x .front)) (only (eqb (endOf (ruleOf l) q (x .front)) p) (eqb (endOf (ruleOf l) q (x .spare)) p) x .spare)
+    → landed (lineRuleOf l) p q (x .spare) (landed (lineRuleOf l) p q (x .front) c)
+    ≡ joined (joined c (only (eqb (endOf (lineRuleOf l) q (x .front)) p) (eqb (endOf (lineRuleOf l) q (x .spare)) p) x .front)) (only (eqb (endOf (lineRuleOf l) q (x .front)) p) (eqb (endOf (lineRuleOf l) q (x .spare)) p) x .spare)
 unfolding landed
-both-landed l p q x c = go (eqb (endOf (ruleOf l) q (x .front)) p) (eqb (endOf (ruleOf l) q (x .spare)) p)
+both-landed l p q x c = go (eqb (endOf (lineRuleOf l) q (x .front)) p) (eqb (endOf (lineRuleOf l) q (x .spare)) p)
   where
     go : (u v : Bool) → cond v (joined (cond u (joined c (x .front)) c) (x .spare)) (cond u (joined c (x .front)) c) ≡ joined (joined c (only u v x .front)) (only u v x .spare)
     go true true = refl
@@ -82,14 +82,14 @@ pub record Runs (l : Leg) (b : ℕ) (R : ℕ → Rec) (pos post : ℕ → ℕ) :
   pub rising : Rising b R
   pub before : Fits b pos
   pub after : Fits b post
-  pub next : (k : ℕ) → k < b → post k ≡ onLine l (pos k) (endOf (ruleOf l) (spot l (pos k)) (R k))
+  pub next : (k : ℕ) → k < b → post k ≡ onLine l (pos k) (endOf (lineRuleOf l) (spot l (pos k)) (R k))
 
 module _ {l : Leg} {b : ℕ} {R : ℕ → Rec} {pos post : ℕ → ℕ} (m : Runs l b R pos post) (i : ℕ) where
   abbrev p : ℕ
   p = spot l i
 
   abbrev end : ℕ → ℕ → ℕ
-  end q k = endOf (ruleOf l) q (R k)
+  end q k = endOf (lineRuleOf l) q (R k)
 
   abbrev line : ℕ → Cell
   line q = contentOf b R pos (onLine l i q)
@@ -148,39 +148,39 @@ module _ {l : Leg} {b : ℕ} {R : ℕ → Rec} {pos post : ℕ → ℕ} (m : Run
       (apart (spot l (pos k)) q)
 
   -- never three on the way, for there are never three at the end
-  laid-holds : (q : ℕ) → q ≤ l .side → Holds R (Here q) (laid (ruleOf l) (λ q. contentOf b R pos (onLine l i q)) (spot l i) q)
+  laid-holds : (q : ℕ) → q ≤ l .side → Holds R (Here q) (laid (lineRuleOf l) (λ q. contentOf b R pos (onLine l i q)) (spot l i) q)
   unfolding laid
   laid-holds zero h = hold0 refl (λ k o. omega arith)
   laid-holds (suc q) h =
-      rw (both-landed l p q (line q) (laid (ruleOf l) line p q))
+      rw (both-landed l p q (line q) (laid (lineRuleOf l) line p q))
       (same-holds
       (λ k. ⊎-elim (λ o. (o .0, omega arith)) (λ c. (comes q k h (c .0) (ended q k c), omega (arith, was q k h (c .0)))))
       (λ k. next-here q k h)
       (joins-both R b (m .rising .marked) (m .rising .rising) (At b post i) (λ k a. a .0) (few {pos = post} (m .after) i)
       (λ k o c. omega (arith, o .1, was q k h (c .0))) (λ k o. o .0) (λ k c. comes q k h (c .0) (ended q k c))
       (laid-holds q (omega arith))
-      (passes (λ x. eqb (endOf (ruleOf l) q x) p) (content-holds (m .rising) pos (m .before) (onLine l i q)))))
+      (passes (λ x. eqb (endOf (lineRuleOf l) q x) p) (content-holds (m .rising) pos (m .before) (onLine l i q)))))
 
   -- a record of a still line stays where it is
-  stays : isStill (ruleOf l) line ≡ true → (q k : ℕ) → q < l .side → From q k → end q k ≡ q
+  stays : isStill (lineRuleOf l) line ≡ true → (q k : ℕ) → q < l .side → From q k → end q k ≡ q
   stays still q k h f = staying l q (R k) (m .rising .marked k (f .0)) (held-stays (content-holds (m .rising) pos (m .before) (onLine l i q)) k f)
     where
-      fronts : leaves (ruleOf l) q (line q .front) ≡ false
-      fronts = stays-all (ruleOf l) (λ q. line q .front) (l .side) (both-left _ (noneLeaves (ruleOf l) (λ q. line q .spare) (l .side)) still) q h
+      fronts : leaves (lineRuleOf l) q (line q .front) ≡ false
+      fronts = stays-all (lineRuleOf l) (λ q. line q .front) (l .side) (both-left _ (noneLeaves (lineRuleOf l) (λ q. line q .spare) (l .side)) still) q h
 
-      spares : leaves (ruleOf l) q (line q .spare) ≡ false
-      spares = stays-all (ruleOf l) (λ q. line q .spare) (l .side) (both-right (noneLeaves (ruleOf l) (λ q. line q .front) (l .side)) _ still) q h
+      spares : leaves (lineRuleOf l) q (line q .spare) ≡ false
+      spares = stays-all (lineRuleOf l) (λ q. line q .spare) (l .side) (both-right (noneLeaves (lineRuleOf l) (λ q. line q .front) (l .side)) _ still) q h
 
-      held-stays : Holds R (From q) (line q) → (k : ℕ) → From q k → leaves (ruleOf l) q (R k) ≡ false
+      held-stays : Holds R (From q) (line q) → (k : ℕ) → From q k → leaves (lineRuleOf l) q (R k) ≡ false
       held-stays (hold0 e n) k f = absurd (n k f)
-      held-stays (hold1 a e x n) k f = rw (n k f) (ap (λ (c : Cell). leaves (ruleOf l) q (c .front)) (sym e) ∙ fronts)
+      held-stays (hold1 a e x n) k f = rw (n k f) (ap (λ (c : Cell). leaves (lineRuleOf l) q (c .front)) (sym e) ∙ fronts)
       held-stays (hold2 a c e u x y n) k f =
           ⊎-elim
-          (λ d. rw d (ap (λ (c : Cell). leaves (ruleOf l) q (c .front)) (sym e) ∙ fronts))
-          (λ d. rw d (ap (λ (c : Cell). leaves (ruleOf l) q (c .spare)) (sym e) ∙ spares))
+          (λ d. rw d (ap (λ (c : Cell). leaves (lineRuleOf l) q (c .front)) (sym e) ∙ fronts))
+          (λ d. rw d (ap (λ (c : Cell). leaves (lineRuleOf l) q (c .spare)) (sym e) ∙ spares))
           (n k f)
 
-  still-here : isStill (ruleOf l) line ≡ true → Holds R (At b post i) (line p)
+  still-here : isStill (lineRuleOf l) line ≡ true → Holds R (At b post i) (line p)
   still-here still =
       same-holds
       (λ k f. comes p k p< f (stays still p k p< f))
@@ -189,10 +189,10 @@ module _ {l : Leg} {b : ℕ} {R : ℕ → Rec} {pos post : ℕ → ℕ} (m : Run
       rw e at (came k a))
       (content-holds (m .rising) pos (m .before) (onLine l i p))
 
-  pub ran-content : ranOn (ruleOf l) (contentOf b R pos) i ≡ contentOf b R post i
+  pub ran-content : ranOn (lineRuleOf l) (contentOf b R pos) i ≡ contentOf b R post i
   unfolding ranOn
-  ran-content = holds-one (go (isStill (ruleOf l) line) refl) (content-holds (m .rising) post (m .after) i)
+  ran-content = holds-one (go (isStill (lineRuleOf l) line) refl) (content-holds (m .rising) post (m .after) i)
     where
-      go : (a : Bool) → isStill (ruleOf l) line ≡ a → Holds R (At b post i) (cond a (line p) (laid (ruleOf l) line p (l .side)))
+      go : (a : Bool) → isStill (lineRuleOf l) line ≡ a → Holds R (At b post i) (cond a (line p) (laid (lineRuleOf l) line p (l .side)))
       go true e = still-here e
       go false e = same-holds (λ k o. o .0) (λ k a. (a, spot< l (m .some) (pos k))) (laid-holds (l .side) (omega arith))

@@ -16,7 +16,7 @@ use Rattle.slots.specs.declared.Cell.{Cell}
 use Rattle.slots.specs.Cells.{nothing, countOf, marksIn}
 use Rattle.mesh.specs.declared.Leg.{Leg}
 use Rattle.mesh.specs.Lines.{reach, headOf, goesAt}
-use Rattle.mesh.specs.Mesh.{ruleOf, goneIn}
+use Rattle.mesh.specs.Mesh.{lineRuleOf, goneIn}
 use Rattle.course.specs.Showing.{contentOf, changed}
 use Rattle.course.proofs.Holds.{Holds, hold0, hold1, hold2}
 use Rattle.course.proofs.Content.{Rising, Fits, At, content-holds}
@@ -81,24 +81,24 @@ module _ (s : ℕ) {b : ℕ} {R : ℕ → Rec} {pos : ℕ → ℕ} (z : Rising b
 -- move j of a run counts those that it takes to another cell of their line
 module _ (l : Leg) {b : ℕ} {R : ℕ → Rec} {pos : ℕ → ℕ} (some : 0 < l .side) (z : Rising b R) (f : Fits b pos) (inside : (r : ℕ) → r < b → pos r < cells (l .side)) (j : ℕ) where
   abbrev after : ℕ → ℕ → ℕ
-  after m r = reach (ruleOf l) (headOf (ruleOf l) (R r)) (spot l (pos r)) m
+  after m r = reach (lineRuleOf l) (headOf (lineRuleOf l) (R r)) (spot l (pos r)) m
 
   after< : (m r : ℕ) → after m r < l .side
-  after< m r = reach< l some (headOf (ruleOf l) (R r)) (spot l (pos r)) m (head< l some (R r)) (spot< l some (pos r))
+  after< m r = reach< l some (headOf (lineRuleOf l) (R r)) (spot l (pos r)) m (head< l some (R r)) (spot< l some (pos r))
 
   goes : (i : ℕ) (x : Rec) → x .mark ≡ 1
-      → goesAt (ruleOf l) j i x ≡ cond (eqb (reach (ruleOf l) (headOf (ruleOf l) x) i (suc j)) (reach (ruleOf l) (headOf (ruleOf l) x) i j)) 0 1
+      → goesAt (lineRuleOf l) j i x ≡ cond (eqb (reach (lineRuleOf l) (headOf (lineRuleOf l) x) i (suc j)) (reach (lineRuleOf l) (headOf (lineRuleOf l) x) i j)) 0 1
   unfolding goesAt
   goes i x e = rw e
 
-  none-goes : (i : ℕ) → goesAt (ruleOf l) j i nothing ≡ 0
+  none-goes : (i : ℕ) → goesAt (lineRuleOf l) j i nothing ≡ 0
   unfolding goesAt
   none-goes i = refl
 
-  pub run-count : goneIn (ruleOf l) j (contentOf b R pos)
-      ≡ changed b (λ r. atCell l (headOf (ruleOf l) (R r)) (pos r) j) (λ r. atCell l (headOf (ruleOf l) (R r)) (pos r) (suc j))
+  pub run-count : goneIn (lineRuleOf l) j (contentOf b R pos)
+      ≡ changed b (λ r. atCell l (headOf (lineRuleOf l) (R r)) (pos r) j) (λ r. atCell l (headOf (lineRuleOf l) (R r)) (pos r) (suc j))
   run-count =
-      weights z pos f (λ i x. goesAt (ruleOf l) j (spot l i) x) (λ i. none-goes (spot l i)) (cells (l .side)) inside
+      weights z pos f (λ i x. goesAt (lineRuleOf l) j (spot l i) x) (λ i. none-goes (spot l i)) (cells (l .side)) inside
       ∙ sum-cong b (λ r u. goes (spot l (pos r)) (R r) (z .marked r u) ∙ ap (λ (a : Bool). cond a 0 1)
       (same-test {a = after (suc j) r} {b = after j r} {c = onLine l (pos r) (after j r)} {d = onLine l (pos r) (after (suc j) r)}
       (λ e. ap (onLine l (pos r)) (sym e))

@@ -17,8 +17,8 @@ use Rattle.array.specs.declared.moves.Move.{Move}
 use Rattle.array.specs.declared.moves.Move.the-variants.{Swap, Electronic}
 use Rattle.array.specs.Cells.{cells, partner}
 use Rattle.array.proofs.Board.{partner-in, partner-twice}
-use Rattle.logs.specs.declared.Run.{Run}
-use Rattle.logs.specs.Runs.{swapsIn}
+use Rattle.runs.specs.declared.Run.{Run}
+use Rattle.runs.specs.Runs.{swapsIn}
 use Rattle.lists.specs.declared.Trip.{Trip}
 use Rattle.travel.specs.declared.turns.Turn.{Turn}
 use Rattle.travel.specs.Turns.{turnIn}
@@ -29,7 +29,7 @@ use Rattle.slots.specs.declared.Cell.{Cell}
 use Rattle.slots.specs.Cells.{marksIn}
 use Rattle.mesh.specs.declared.Leg.{Leg}
 use Rattle.mesh.specs.Lines.{headOf, goesAt}
-use Rattle.mesh.specs.Mesh.{ruleOf}
+use Rattle.mesh.specs.Mesh.{lineRuleOf}
 use Rattle.mover.specs.Runs.{lowAfter, legOf, swapped, ranBy, goneBy, madeOf, after, movedLog}
 use Rattle.course.specs.Showing.{contentOf, changed, Shows}
 use Rattle.mesh.proofs.Legs.{ran-same}
@@ -100,7 +100,7 @@ module _ {trip : Trip} {s b swaps times m : ℕ} {R : ℕ → Rec} {pos : ℕ �
 
   -- where the records are after k moves one way
   came : {w : Way} (made k : ℕ) → Part trip s (Electronic w) swaps times m b R pos → k ≤ m → (r : ℕ) → r < b
-      → pos k r ≡ atCell (legOf trip s swaps w times made) (headOf (ruleOf (legOf trip s swaps w times made)) (R r)) (pos 0 r) k
+      → pos k r ≡ atCell (legOf trip s swaps w times made) (headOf (lineRuleOf (legOf trip s swaps w times made)) (R r)) (pos 0 r) k
   came {w} made k c l r u =
       walked trip s swaps times made some w (R r) (λ k. pos k r) k
       (λ j v. c .next j (omega arith) r u ∙ ap (λ (n : ℕ). going s w (waitFor trip (times - j)) (headed s (lowAfter trip n) (R r .aim)) (pos j r)) (add-zero swaps))
@@ -121,7 +121,7 @@ module _ {trip : Trip} {s b swaps times m : ℕ} {R : ℕ → Rec} {pos : ℕ �
         before = c .fits 0 (omega arith);
         after = c .fits m (omega arith);
         next = λ r v. came m m c (omega arith) r v
-            ∙ ap (atCell (legOf trip s swaps w times m) (headOf (ruleOf (legOf trip s swaps w times m)) (R r)) (pos 0 r)) (sym (min-eq-left (c .few)));
+            ∙ ap (atCell (legOf trip s swaps w times m) (headOf (lineRuleOf (legOf trip s swaps w times m)) (R r)) (pos 0 r)) (sym (min-eq-left (c .few)));
       }
 
   run-counts : (x : Move) → Part trip s x swaps times m b R pos → (k : ℕ) → k < m → goneBy trip s swaps x times k T ≡ changed b (pos k) (pos (suc k))
@@ -135,8 +135,8 @@ module _ {trip : Trip} {s b swaps times m : ℕ} {R : ℕ → Rec} {pos : ℕ �
       ∙ changed-same b (λ r u. sym (came times k c (omega arith) r u)) (λ r u. sym (came times (suc k) c l r u))
     where
       gone : ℕ → Cell → ℕ
-      gone i c = goesAt (ruleOf (legOf trip s swaps w times times)) k (spot (legOf trip s swaps w times times) i) (c .front)
-          + goesAt (ruleOf (legOf trip s swaps w times times)) k (spot (legOf trip s swaps w times times) i) (c .spare)
+      gone i c = goesAt (lineRuleOf (legOf trip s swaps w times times)) k (spot (legOf trip s swaps w times times) i) (c .front)
+          + goesAt (lineRuleOf (legOf trip s swaps w times times)) k (spot (legOf trip s swaps w times times) i) (c .spare)
 
 module _ {trip : Trip} {s b : ℕ} {R : ℕ → Rec} (some : 0 < s) where
   -- the course of a list is that of its first run, and that of the others

@@ -14,7 +14,7 @@ use Rattle.array.specs.Cells.{groups, cells}
 use Rattle.slots.specs.declared.Rec.{Rec}
 use Rattle.mesh.specs.declared.Leg.{Leg}
 use Rattle.mesh.specs.Lines.{waitOf, stepOf, reach, headOf, endOf}
-use Rattle.mesh.specs.Mesh.{strideOf, goesUp, goesDown, ruleOf, spotOf, lineCell}
+use Rattle.mesh.specs.Mesh.{strideOf, goesUp, goesDown, lineRuleOf, spotOf, lineCell}
 
 -- lines lie side by side in blocks, a stride of them in each: so many blocks are the board
 abbrev blocks : ℕ → Way → ℕ
@@ -25,14 +25,14 @@ blocks s Down = groups s
 
 -- which cell of its line cell i is, and cell q of that line
 abbrev pub spot : Leg → ℕ → ℕ
-spot l i = spotOf (ruleOf l) i
+spot l i = spotOf (lineRuleOf l) i
 
 abbrev pub onLine : Leg → ℕ → ℕ → ℕ
-onLine l i q = lineCell (ruleOf l) i q
+onLine l i q = lineCell (lineRuleOf l) i q
 
 -- where a record that heads for cell h of the line of cell i is after the first k moves
 abbrev pub atCell : Leg → ℕ → ℕ → ℕ → ℕ
-atCell l h i k = onLine l i (reach (ruleOf l) h (spot l i) k)
+atCell l h i k = onLine l i (reach (lineRuleOf l) h (spot l i) k)
 
 module _ (l : Leg) (some : 0 < l .side) where
   abbrev stride : ℕ
@@ -106,21 +106,21 @@ module _ (l : Leg) (some : 0 < l .side) where
       rw (line-at i q, whole) (digits-lt (digits-lt (div-lt-iff-lt-mul some .1 (div-lt-iff-lt-mul stride-some .1 v)) u) (off< i))
 
   -- a record stays on its line
-  step< : (h j p : ℕ) → h < l .side → p < l .side → stepOf (ruleOf l) h j p < l .side
-  step< h j p u v = go (goesUp (l .way) && ltb (p + waitOf (ruleOf l) j) h) refl (goesDown (l .way) && ltb (h + waitOf (ruleOf l) j) p)
+  step< : (h j p : ℕ) → h < l .side → p < l .side → stepOf (lineRuleOf l) h j p < l .side
+  step< h j p u v = go (goesUp (l .way) && ltb (p + waitOf (lineRuleOf l) j) h) refl (goesDown (l .way) && ltb (h + waitOf (lineRuleOf l) j) p)
     where
-      go : (a : Bool) → goesUp (l .way) && ltb (p + waitOf (ruleOf l) j) h ≡ a → (b : Bool) → cond a (p + 1) (cond b (p - 1) p) < l .side
-      go true e b = omega (arith, ltb-true (p + waitOf (ruleOf l) j) h (both-right (goesUp (l .way)) (ltb (p + waitOf (ruleOf l) j) h) e))
+      go : (a : Bool) → goesUp (l .way) && ltb (p + waitOf (lineRuleOf l) j) h ≡ a → (b : Bool) → cond a (p + 1) (cond b (p - 1) p) < l .side
+      go true e b = omega (arith, ltb-true (p + waitOf (lineRuleOf l) j) h (both-right (goesUp (l .way)) (ltb (p + waitOf (lineRuleOf l) j) h) e))
       go false e true = omega arith
       go false e false = v
 
-  pub reach< : (h p k : ℕ) → h < l .side → p < l .side → reach (ruleOf l) h p k < l .side
+  pub reach< : (h p k : ℕ) → h < l .side → p < l .side → reach (lineRuleOf l) h p k < l .side
   unfolding reach
   reach< h p zero u v = v
-  reach< h p (suc k) u v = step< h k (reach (ruleOf l) h p k) u (reach< h p k u v)
+  reach< h p (suc k) u v = step< h k (reach (lineRuleOf l) h p k) u (reach< h p k u v)
 
-  pub head< : (x : Rec) → headOf (ruleOf l) x < l .side
-  head< x = mod-lt (x .aim / ruleOf l .unit) some
+  pub head< : (x : Rec) → headOf (lineRuleOf l) x < l .side
+  head< x = mod-lt (x .aim / lineRuleOf l .unit) some
 
-  pub end< : (p : ℕ) (x : Rec) → p < l .side → endOf (ruleOf l) p x < l .side
-  end< p x h = reach< (headOf (ruleOf l) x) p (ruleOf l .made) (head< x) h
+  pub end< : (p : ℕ) (x : Rec) → p < l .side → endOf (lineRuleOf l) p x < l .side
+  end< p x h = reach< (headOf (lineRuleOf l) x) p (lineRuleOf l .made) (head< x) h

@@ -15,8 +15,8 @@ use Rattle.slots.specs.declared.Rec.{Rec}
 use Rattle.slots.specs.declared.Cell.{Cell}
 use Rattle.slots.specs.Cells.{joined}
 use Rattle.mesh.specs.declared.Leg.{Leg}
-use Rattle.mesh.specs.Lines.{headOf, reach, endOf, leaves, noneLeaves, landed, laid, ranLine, distanceOf}
-use Rattle.mesh.specs.Mesh.{strideOf, ruleOf, spotOf, lineCell, ranOn}
+use Rattle.mesh.specs.Lines.{headOf, reach, endOf, leaves, noneLeaves, landed, laid, ranLine, cellsToGo}
+use Rattle.mesh.specs.Mesh.{strideOf, lineRuleOf, spotOf, lineCell, ranOn}
 use Rattle.mesh.specs.Inside.{Strided, lineStep, goneOf}
 use Rattle.mesh.proofs.Walking.{ends-up, ends-down}
 use Rattle.mesh.proofs.Spots.{Split, split, spotted, line-in, spot-shifted, lineOf}
@@ -46,8 +46,8 @@ most-under (suc n) f k h =
 pub far-on : (l : Leg) (U : ℕ → Cell) (p : ℕ) → p < l .side → farIn l p (U p) ≤ farthestOn l U
 far-on l U p h = each-most (l .side) (λ p. farIn l p (U p)) p h
 
-pub far-of : (l : Leg) (T : ℕ → Cell) (i : ℕ) → i < cells (l .side) → farIn l (spotOf (ruleOf l) i) (T i) ≤ farthest l T
-far-of l T i h = each-most (cells (l .side)) (λ i. farIn l (spotOf (ruleOf l) i) (T i)) i h
+pub far-of : (l : Leg) (T : ℕ → Cell) (i : ℕ) → i < cells (l .side) → farIn l (spotOf (lineRuleOf l) i) (T i) ≤ farthest l T
+far-of l T i h = each-most (cells (l .side)) (λ i. farIn l (spotOf (lineRuleOf l) i) (T i)) i h
 
 pub far-front : (l : Leg) (p : ℕ) (c : Cell) {d : ℕ} → farIn l p c ≤ d → farOf l p (c .front) ≤ d
 far-front l p c h = most-left (farOf l p (c .front)) (farOf l p (c .spare)) h
@@ -67,54 +67,54 @@ either true c = refl
 either false c = refl
 
 -- runs of a moves and of b that take a record equally far which has at most d cells to go
-module _ (l : Leg) (a b d : ℕ) (same : (n : ℕ) → n ≤ d → goneOf (ruleOf (upTo l a)) n ≡ goneOf (ruleOf (upTo l b)) n) where
+module _ (l : Leg) (a b d : ℕ) (same : (n : ℕ) → n ≤ d → goneOf (lineRuleOf (upTo l a)) n ≡ goneOf (lineRuleOf (upTo l b)) n) where
   abbrev A : Leg
   A = upTo l a
 
   abbrev B : Leg
   B = upTo l b
 
-  ends-same : (q h : ℕ) → distanceOf (ruleOf l) q h ≤ d → reach (ruleOf A) h q (ruleOf A .made) ≡ reach (ruleOf B) h q (ruleOf B .made)
+  ends-same : (q h : ℕ) → cellsToGo (lineRuleOf l) q h ≤ d → reach (lineRuleOf A) h q (lineRuleOf A .made) ≡ reach (lineRuleOf B) h q (lineRuleOf B .made)
   ends-same q h u =
       ⊎-elim
-      (λ v. ends-up (ruleOf A) h q (omega arith) v ∙ ap (λ (n : ℕ). q + n) (same (distanceOf (ruleOf l) q h) u) ∙ sym (ends-up (ruleOf B) h q (omega arith) v))
-      (λ v. ends-down (ruleOf A) h q (omega arith) v ∙ ap (λ (n : ℕ). q - n) (same (distanceOf (ruleOf l) q h) u) ∙ sym (ends-down (ruleOf B) h q (omega arith) v))
+      (λ v. ends-up (lineRuleOf A) h q (omega arith) v ∙ ap (λ (n : ℕ). q + n) (same (cellsToGo (lineRuleOf l) q h) u) ∙ sym (ends-up (lineRuleOf B) h q (omega arith) v))
+      (λ v. ends-down (lineRuleOf A) h q (omega arith) v ∙ ap (λ (n : ℕ). q - n) (same (cellsToGo (lineRuleOf l) q h) u) ∙ sym (ends-down (lineRuleOf B) h q (omega arith) v))
       (apart q h)
 
-  leaves-same : (q : ℕ) (x : Rec) → farOf l q x ≤ d → leaves (ruleOf A) q x ≡ leaves (ruleOf B) q x
+  leaves-same : (q : ℕ) (x : Rec) → farOf l q x ≤ d → leaves (lineRuleOf A) q x ≡ leaves (lineRuleOf B) q x
   unfolding leaves
   leaves-same q x u = go (eqb (x .mark) 0) u
     where
-      go : (m : Bool) → cond m 0 (distanceOf (ruleOf l) q (headOf (ruleOf l) x)) ≤ d → cond m false (not (eqb (endOf (ruleOf A) q x) q)) ≡ cond m false (not (eqb (endOf (ruleOf B) q x) q))
+      go : (m : Bool) → cond m 0 (cellsToGo (lineRuleOf l) q (headOf (lineRuleOf l) x)) ≤ d → cond m false (not (eqb (endOf (lineRuleOf A) q x) q)) ≡ cond m false (not (eqb (endOf (lineRuleOf B) q x) q))
       go true u = refl
-      go false u = ap (λ (e : ℕ). not (eqb e q)) (ends-same q (headOf (ruleOf l) x) u)
+      go false u = ap (λ (e : ℕ). not (eqb e q)) (ends-same q (headOf (lineRuleOf l) x) u)
 
-  landed-same : (p q : ℕ) (x : Rec) (c : Cell) → farOf l q x ≤ d → landed (ruleOf A) p q x c ≡ landed (ruleOf B) p q x c
+  landed-same : (p q : ℕ) (x : Rec) (c : Cell) → farOf l q x ≤ d → landed (lineRuleOf A) p q x c ≡ landed (lineRuleOf B) p q x c
   unfolding landed joined
   landed-same p q x c u = go (eqb (x .mark) 0) u _
     where
-      go : (m : Bool) → cond m 0 (distanceOf (ruleOf l) q (headOf (ruleOf l) x)) ≤ d → (r : Cell)
-          → cond (eqb (endOf (ruleOf A) q x) p) (cond m c r) c ≡ cond (eqb (endOf (ruleOf B) q x) p) (cond m c r) c
-      go true u r = either (eqb (endOf (ruleOf A) q x) p) c ∙ sym (either (eqb (endOf (ruleOf B) q x) p) c)
-      go false u r = ap (λ (e : ℕ). cond (eqb e p) r c) (ends-same q (headOf (ruleOf l) x) u)
+      go : (m : Bool) → cond m 0 (cellsToGo (lineRuleOf l) q (headOf (lineRuleOf l) x)) ≤ d → (r : Cell)
+          → cond (eqb (endOf (lineRuleOf A) q x) p) (cond m c r) c ≡ cond (eqb (endOf (lineRuleOf B) q x) p) (cond m c r) c
+      go true u r = either (eqb (endOf (lineRuleOf A) q x) p) c ∙ sym (either (eqb (endOf (lineRuleOf B) q x) p) c)
+      go false u r = ap (λ (e : ℕ). cond (eqb e p) r c) (ends-same q (headOf (lineRuleOf l) x) u)
 
   module _ (U : ℕ → Cell) (far : (q : ℕ) → q < l .side → farIn l q (U q) ≤ d) where
-    laid-same : (p n : ℕ) → n ≤ l .side → laid (ruleOf A) U p n ≡ laid (ruleOf B) U p n
+    laid-same : (p n : ℕ) → n ≤ l .side → laid (lineRuleOf A) U p n ≡ laid (lineRuleOf B) U p n
     unfolding laid
     laid-same p zero k = refl
     laid-same p (suc n) k =
         let u = far n (omega arith) in
-        let below = laid (ruleOf B) U p n in
-        ap (λ (c : Cell). landed (ruleOf A) p n (U n .spare) (landed (ruleOf A) p n (U n .front) c)) (laid-same p n (omega arith))
-        ∙ landed-same p n (U n .spare) (landed (ruleOf A) p n (U n .front) below) (far-spare l n (U n) u)
-        ∙ ap (landed (ruleOf B) p n (U n .spare)) (landed-same p n (U n .front) below (far-front l n (U n) u))
+        let below = laid (lineRuleOf B) U p n in
+        ap (λ (c : Cell). landed (lineRuleOf A) p n (U n .spare) (landed (lineRuleOf A) p n (U n .front) c)) (laid-same p n (omega arith))
+        ∙ landed-same p n (U n .spare) (landed (lineRuleOf A) p n (U n .front) below) (far-spare l n (U n) u)
+        ∙ ap (landed (lineRuleOf B) p n (U n .spare)) (landed-same p n (U n .front) below (far-front l n (U n) u))
 
-    none-same : (S : ℕ → Rec) → ((q : ℕ) → q < l .side → farOf l q (S q) ≤ d) → (n : ℕ) → n ≤ l .side → noneLeaves (ruleOf A) S n ≡ noneLeaves (ruleOf B) S n
+    none-same : (S : ℕ → Rec) → ((q : ℕ) → q < l .side → farOf l q (S q) ≤ d) → (n : ℕ) → n ≤ l .side → noneLeaves (lineRuleOf A) S n ≡ noneLeaves (lineRuleOf B) S n
     unfolding noneLeaves
     none-same S f zero k = refl
     none-same S f (suc n) k = ap₂ (λ (x y : Bool). x && not y) (none-same S f n (omega arith)) (leaves-same n (S n) (f n (omega arith)))
 
-    pub line-same : (p : ℕ) → p < l .side → ranLine (ruleOf A) U p ≡ ranLine (ruleOf B) U p
+    pub line-same : (p : ℕ) → p < l .side → ranLine (lineRuleOf A) U p ≡ ranLine (lineRuleOf B) U p
     line-same p h =
         let f = none-same (λ q. U q .front) (λ q u. far-front l q (U q) (far q u)) (l .side) (omega arith) in
         let g = none-same (λ q. U q .spare) (λ q u. far-spare l q (U q) (far q u)) (l .side) (omega arith) in
@@ -125,36 +125,36 @@ module _ (l : Leg) where
   abbrev none : Leg
   none = upTo l 0
 
-  none-ends : (q h : ℕ) → reach (ruleOf none) h q (ruleOf none .made) ≡ q
+  none-ends : (q h : ℕ) → reach (lineRuleOf none) h q (lineRuleOf none .made) ≡ q
   unfolding reach
-  none-ends q h = let e : min 0 (l .times) ≡ 0 = omega arith in ap (reach (ruleOf none) h q) e
+  none-ends q h = let e : min 0 (l .times) ≡ 0 = omega arith in ap (reach (lineRuleOf none) h q) e
 
-  none-leaves : (q : ℕ) (x : Rec) → leaves (ruleOf none) q x ≡ false
+  none-leaves : (q : ℕ) (x : Rec) → leaves (lineRuleOf none) q x ≡ false
   unfolding leaves
-  none-leaves q x = rw (eq-eqb (endOf (ruleOf none) q x) q (none-ends q (headOf (ruleOf none) x))) (either (eqb (x .mark) 0) false)
+  none-leaves q x = rw (eq-eqb (endOf (lineRuleOf none) q x) q (none-ends q (headOf (lineRuleOf none) x))) (either (eqb (x .mark) 0) false)
 
-  none-all : (S : ℕ → Rec) (n : ℕ) → noneLeaves (ruleOf none) S n ≡ true
+  none-all : (S : ℕ → Rec) (n : ℕ) → noneLeaves (lineRuleOf none) S n ≡ true
   unfolding noneLeaves
   none-all S zero = refl
   none-all S (suc n) = rw (none-all S n, none-leaves n (S n))
 
-  none-ran : (U : ℕ → Cell) (p : ℕ) → ranLine (ruleOf none) U p ≡ U p
+  none-ran : (U : ℕ → Cell) (p : ℕ) → ranLine (lineRuleOf none) U p ≡ U p
   none-ran U p = rw (none-all (λ q. U q .front) (l .side), none-all (λ q. U q .spare) (l .side))
 
 -- a record that has at most d cells to go is there after d moves, and going late it has not set off while d are left
-first-gone : (l : Leg) (k m : ℕ) → l .late ≡ false → k ≤ m → (n : ℕ) → n ≤ k → goneOf (ruleOf (upTo l k)) n ≡ goneOf (ruleOf (upTo l m)) n
+first-gone : (l : Leg) (k m : ℕ) → l .late ≡ false → k ≤ m → (n : ℕ) → n ≤ k → goneOf (lineRuleOf (upTo l k)) n ≡ goneOf (lineRuleOf (upTo l m)) n
 first-gone l k m e h n u = rw e (omega arith)
 
-last-gone : (l : Leg) (k d : ℕ) → l .late ≡ true → k ≤ l .times - d → (n : ℕ) → n ≤ d → goneOf (ruleOf (upTo l k)) n ≡ goneOf (ruleOf (upTo l 0)) n
+last-gone : (l : Leg) (k d : ℕ) → l .late ≡ true → k ≤ l .times - d → (n : ℕ) → n ≤ d → goneOf (lineRuleOf (upTo l k)) n ≡ goneOf (lineRuleOf (upTo l 0)) n
 last-gone l k d e h n u = rw e (omega arith)
 
 -- a run of as many moves as the greatest distance on a line does to it what a longer one does
 pub line-enough : (l : Leg) (U : ℕ → Cell) (k m : ℕ) → l .late ≡ false → farthestOn l U ≤ k → k ≤ m → (p : ℕ) → p < l .side
-    → ranLine (ruleOf (upTo l k)) U p ≡ ranLine (ruleOf (upTo l m)) U p
+    → ranLine (lineRuleOf (upTo l k)) U p ≡ ranLine (lineRuleOf (upTo l m)) U p
 line-enough l U k m e f h p i = line-same l k m k (first-gone l k m e h) U (λ q u. let z = far-on l U q u in omega (arith, z, f)) p i
 
 -- of a run that goes late only as many last moves do anything to it
-pub line-idle : (l : Leg) (U : ℕ → Cell) (k d : ℕ) → l .late ≡ true → farthestOn l U ≤ d → k ≤ l .times - d → (p : ℕ) → p < l .side → ranLine (ruleOf (upTo l k)) U p ≡ U p
+pub line-idle : (l : Leg) (U : ℕ → Cell) (k d : ℕ) → l .late ≡ true → farthestOn l U ≤ d → k ≤ l .times - d → (p : ℕ) → p < l .side → ranLine (lineRuleOf (upTo l k)) U p ≡ U p
 line-idle l U k d e f h p i =
     line-same l k 0 d (last-gone l k d e h) U (λ q u. let z = far-on l U q u in omega (arith, z, f)) p i
     ∙ none-ran l U p
@@ -169,7 +169,7 @@ module _ (l : Leg) (i : ℕ) (i< : i < cells (l .side)) where
   some : 0 < l .side
   some = some-side (l .side) i i<
 
-  strided : Strided (ruleOf l)
+  strided : Strided (lineRuleOf l)
   strided = go (l .way)
     where
       go : (w : Way) → (strideOf (l .side) w ≡ 1) ⊎ (strideOf (l .side) w ≡ l .side)
@@ -189,57 +189,57 @@ module _ (l : Leg) (i : ℕ) (i< : i < cells (l .side)) where
 
   -- cell q of the same line, by its group
   abbrev inGroup : ℕ → ℕ
-  inGroup q = lineOf (ruleOf l) at * lineStep (ruleOf l) + q * ruleOf l .stride
+  inGroup q = lineOf (lineRuleOf l) at * lineStep (lineRuleOf l) + q * lineRuleOf l .stride
 
-  parts : Split (ruleOf l) at
-  parts = split (ruleOf l) some strided at (place-in some i)
+  parts : Split (lineRuleOf l) at
+  parts = split (lineRuleOf l) some strided at (place-in some i)
 
-  own-spot : spotOf (ruleOf l) i ≡ spotOf (ruleOf l) at
-  own-spot = ap (spotOf (ruleOf l)) (sym (cell-of (l .side) i)) ∙ spot-shifted (ruleOf l) some strided g at
+  own-spot : spotOf (lineRuleOf l) i ≡ spotOf (lineRuleOf l) at
+  own-spot = ap (spotOf (lineRuleOf l)) (sym (cell-of (l .side) i)) ∙ spot-shifted (lineRuleOf l) some strided g at
 
-  by-group : (q : ℕ) → lineCell (ruleOf l) i q ≡ g * N + inGroup q
+  by-group : (q : ℕ) → lineCell (lineRuleOf l) i q ≡ g * N + inGroup q
   by-group q =
       let is : g * N + at ≡ i = cell-of (l .side) i in
-      ap (λ (n : ℕ). i - n * ruleOf l .stride + q * ruleOf l .stride) own-spot ∙ omega (arith, is, parts .is)
+      ap (λ (n : ℕ). i - n * lineRuleOf l .stride + q * lineRuleOf l .stride) own-spot ∙ omega (arith, is, parts .is)
 
-  line-on : (q : ℕ) → q < l .side → lineCell (ruleOf l) i q < cells (l .side)
+  line-on : (q : ℕ) → q < l .side → lineCell (lineRuleOf l) i q < cells (l .side)
   line-on q h =
       let fits : g * N + N ≤ N * N = part-fits N g (g * N) (group-in some i i<) refl in
-      omega (arith, by-group q, fits, line-in (ruleOf l) some strided (lineOf (ruleOf l) at) q (parts .line<) h)
+      omega (arith, by-group q, fits, line-in (lineRuleOf l) some strided (lineOf (lineRuleOf l) at) q (parts .line<) h)
 
-  line-spot : (q : ℕ) → q < l .side → spotOf (ruleOf l) (lineCell (ruleOf l) i q) ≡ q
+  line-spot : (q : ℕ) → q < l .side → spotOf (lineRuleOf l) (lineCell (lineRuleOf l) i q) ≡ q
   line-spot q h =
-      ap (spotOf (ruleOf l)) (by-group q)
-      ∙ spot-shifted (ruleOf l) some strided g (inGroup q)
-      ∙ spotted (ruleOf l) some strided (lineOf (ruleOf l) at) q (parts .line<) h .spot
+      ap (spotOf (lineRuleOf l)) (by-group q)
+      ∙ spot-shifted (lineRuleOf l) some strided g (inGroup q)
+      ∙ spotted (lineRuleOf l) some strided (lineOf (lineRuleOf l) at) q (parts .line<) h .spot
 
-  own-cell : lineCell (ruleOf l) i (spotOf (ruleOf l) i) ≡ i
+  own-cell : lineCell (lineRuleOf l) i (spotOf (lineRuleOf l) i) ≡ i
   own-cell =
       let is : g * N + at ≡ i = cell-of (l .side) i in
-      by-group (spotOf (ruleOf l) i) ∙ ap (λ (q : ℕ). g * N + inGroup q) own-spot ∙ omega (arith, is, parts .is)
+      by-group (spotOf (lineRuleOf l) i) ∙ ap (λ (q : ℕ). g * N + inGroup q) own-spot ∙ omega (arith, is, parts .is)
 
-  spot-in : spotOf (ruleOf l) i < l .side
+  spot-in : spotOf (lineRuleOf l) i < l .side
   spot-in = omega (arith, own-spot, parts .spot<)
 
   -- so no distance on it is greater than the greatest of the board
-  pub line-most : (T : ℕ → Cell) → farthestOn l (λ q. T (lineCell (ruleOf l) i q)) ≤ farthest l T
-  line-most T = most-under (l .side) (λ q. farIn l q (T (lineCell (ruleOf l) i q))) (farthest l T) one
+  pub line-most : (T : ℕ → Cell) → farthestOn l (λ q. T (lineCell (lineRuleOf l) i q)) ≤ farthest l T
+  line-most T = most-under (l .side) (λ q. farIn l q (T (lineCell (lineRuleOf l) i q))) (farthest l T) one
     where
-      one : (q : ℕ) → q < l .side → farIn l q (T (lineCell (ruleOf l) i q)) ≤ farthest l T
-      one q h = subst (λ (p : ℕ). farIn l p (T (lineCell (ruleOf l) i q)) ≤ farthest l T) (line-spot q h) (far-of l T (lineCell (ruleOf l) i q) (line-on q h))
+      one : (q : ℕ) → q < l .side → farIn l q (T (lineCell (lineRuleOf l) i q)) ≤ farthest l T
+      one q h = subst (λ (p : ℕ). farIn l p (T (lineCell (lineRuleOf l) i q)) ≤ farthest l T) (line-spot q h) (far-of l T (lineCell (lineRuleOf l) i q) (line-on q h))
 
 -- a run of as many moves as the greatest distance on the board does what a longer one does
 pub enough : (l : Leg) (T : ℕ → Cell) (k m : ℕ) → l .late ≡ false → farthest l T ≤ k → k ≤ m → (i : ℕ) → i < cells (l .side)
-    → ranOn (ruleOf (upTo l k)) T i ≡ ranOn (ruleOf (upTo l m)) T i
+    → ranOn (lineRuleOf (upTo l k)) T i ≡ ranOn (lineRuleOf (upTo l m)) T i
 unfolding ranOn
 enough l T k m e f h i u =
     let z = line-most l i u T in
-    line-enough l (λ q. T (lineCell (ruleOf l) i q)) k m e (omega (arith, z, f)) h (spotOf (ruleOf l) i) (spot-in l i u)
+    line-enough l (λ q. T (lineCell (lineRuleOf l) i q)) k m e (omega (arith, z, f)) h (spotOf (lineRuleOf l) i) (spot-in l i u)
 
 -- of a run that goes late only as many last moves do anything
-pub idle : (l : Leg) (T : ℕ → Cell) (k d : ℕ) → l .late ≡ true → farthest l T ≤ d → k ≤ l .times - d → (i : ℕ) → i < cells (l .side) → ranOn (ruleOf (upTo l k)) T i ≡ T i
+pub idle : (l : Leg) (T : ℕ → Cell) (k d : ℕ) → l .late ≡ true → farthest l T ≤ d → k ≤ l .times - d → (i : ℕ) → i < cells (l .side) → ranOn (lineRuleOf (upTo l k)) T i ≡ T i
 unfolding ranOn
 idle l T k d e f h i u =
     let z = line-most l i u T in
-    line-idle l (λ q. T (lineCell (ruleOf l) i q)) k d e (omega (arith, z, f)) h (spotOf (ruleOf l) i) (spot-in l i u)
+    line-idle l (λ q. T (lineCell (lineRuleOf l) i q)) k d e (omega (arith, z, f)) h (spotOf (lineRuleOf l) i) (spot-in l i u)
     ∙ ap T (own-cell l i u)

@@ -26,12 +26,12 @@ use Rattle.jobtext.proofs.Cells.{square-fits, cells-fit}
 use Rattle.jobtext.proofs.Accepted.{Rising, Known, known, few as few-cells}
 use Rattle.jobs.specs.Outputs.{homeOf, wordsIn, movedCounts as jobCounts, outputOf}
 use Rattle.jobs.specs.Filled.{Filled, printedOf, refusalOf}
-use Rattle.jobs.specs.Inside.{Settled, Lanes, lanesText}
+use Rattle.jobs.specs.Inside.{Settled, JobLanes, lanesText}
 use Rattle.jobs.proofs.Ranks.{laneIn, laid-long, home-in, ranked, all-marked, home-value, home-marked, marks-small}
 use Rattle.jobs.proofs.Solved.{changing, counts-same}
 
 -- the answer of settled lanes is that of the lanes
-pub lanes-text : {s k : ℕ} {w m w′ codes′ moved′ : List ℕ} → Lanes s k w m → length w′ ≡ length w → Settled s w m w′ codes′ moved′ → printedOf s k codes′ moved′ w′ ≡ lanesText s k w m
+pub lanes-text : {s k : ℕ} {w m w′ codes′ moved′ : List ℕ} → JobLanes s k w m → length w′ ≡ length w → Settled s w m w′ codes′ moved′ → printedOf s k codes′ moved′ w′ ≡ lanesText s k w m
 unfolding lanesText
 lanes-text {s} {k} {w} {m} {w′} b l z =
     rw (
@@ -41,7 +41,7 @@ lanes-text {s} {k} {w} {m} {w′} b l z =
           (λ r h. getD-take k w′ r 0 h ∙ z .worded r (omega (arith, b .all)) (omega (arith, b .few))),
     )
 
-pub solve-filled : {s k : ℕ} {w m w′ codes′ moved′ : List ℕ} → Lanes s k w m → length w′ ≡ length w → Settled s w m w′ codes′ moved′ → {a : List ℕ} {r : ℕ} {b : List ℕ}
+pub solve-filled : {s k : ℕ} {w m w′ codes′ moved′ : List ℕ} → JobLanes s k w m → length w′ ≡ length w → Settled s w m w′ codes′ moved′ → {a : List ℕ} {r : ℕ} {b : List ℕ}
     → Filled a (printedOf s k codes′ moved′ w′) r b → Filled a (lanesText s k w m) r b
 solve-filled l e z f = rw (lanes-text l e z) at f
 
@@ -88,7 +88,7 @@ module _ (s : ℕ) (es : List Marked) (side : isSide s ≡ true) (d : Rising 0 (
   small : length es ≤ cells s
   small = omega (arith, few-cells es 0 (cells s) (omega arith) d)
 
-  job-lanes : Lanes s (length es) words marks
+  job-lanes : JobLanes s (length es) words marks
   job-lanes = record {
     side = side;
     words-long = part-long (λ e. e .word);
@@ -116,7 +116,7 @@ module _ (s : ℕ) (es : List Marked) (side : isSide s ≡ true) (d : Rising 0 (
 -- what `run` needs of a job that was read
 module _ {w₀ w m₀ m : List ℕ} {job : Job} where
   lanes-of : (v : Verdict) → Known v → JobRead v w₀ w m₀ m job → (s k : ℕ) → job ≡ Ready s k
-      → Lanes s k (take (cells s) w) (take (cells s) m) × (lanesText s k (take (cells s) w) (take (cells s) m) ≡ outputOf v)
+      → JobLanes s k (take (cells s) w) (take (cells s) m) × (lanesText s k (take (cells s) w) (take (cells s) m) ≡ outputOf v)
   unfolding jobOf laneOf
   lanes-of (accepted s′ es) n z s k e =
       let p : s′ ≡ s = cc (z .answer, e) in
@@ -124,7 +124,7 @@ module _ {w₀ w m₀ m : List ℕ} {job : Job} where
       rw (← p, ← q, z .words-are, z .marks-are) (job-lanes s′ es (n .0) (n .1), job-text s′ es (n .0) (n .1))
   lanes-of (refused a b) n z s k e = let x : _≡_ {A = ℕ} 0 1 = cc (z .answer, e) in absurd (omega arith)
 
-  pub ready-lanes : (text : List ℕ) → JobRead (verdict text) w₀ w m₀ m job → (s k : ℕ) → job ≡ Ready s k → Lanes s k (take (cells s) w) (take (cells s) m)
+  pub ready-lanes : (text : List ℕ) → JobRead (verdict text) w₀ w m₀ m job → (s k : ℕ) → job ≡ Ready s k → JobLanes s k (take (cells s) w) (take (cells s) m)
   ready-lanes text z s k e = lanes-of (verdict text) (known text) z s k e .0
 
   pub ready-side : (text : List ℕ) → JobRead (verdict text) w₀ w m₀ m job → (s k : ℕ) → job ≡ Ready s k → s ≤ 8

@@ -1,4 +1,4 @@
--- Lanes of a board with good marks: rank accepts them, concentrate accepts what rank leaves, and its logs and words are those of the marked cells.
+-- JobLanes of a board with good marks: rank accepts them, concentrate accepts what rank leaves, and its logs and words are those of the marked cells.
 use Prim.Native.Nat.{ℕ, _≤_, _<_}
 use mathlib.Core.Path.{_≡_, refl, ap, _∙_}
 use mathlib.Core.Bool.{Bool, true, false, not, _&&_}
@@ -13,7 +13,7 @@ use Rattle.laws.proofs.Searching.{all-passed}
 use Rattle.laws.proofs.Tables.{entry-at, length-entries}
 use Rattle.answers.specs.declared.Answer.{Answer}
 use Rattle.array.specs.Cells.{isSide, cells}
-use Rattle.logs.specs.Runs.{codes as codesOf}
+use Rattle.runs.specs.Runs.{codes as codesOf}
 use Rattle.lists.specs.declared.Trip.the-variants.{Concentrate}
 use Rattle.lists.specs.Lists.{totalMoves, concentrateRuns, prefixSumRuns}
 use Rattle.answers.specs.Answers.{verdict, acceptedBy, logCase}
@@ -31,7 +31,7 @@ use Rattle.ranking.specs.Entries.{rankCases}
 use Rattle.refusals.specs.Cases.{badAim, aimsCase, fullCases, Good}
 use Rattle.records.specs.Records.{movedCounts}
 use Rattle.records.specs.Entries.{Stood, sizesOf}
-use Rattle.jobs.specs.Inside.{Board, Settled}
+use Rattle.jobs.specs.Inside.{JobBoard, Settled}
 use Rattle.jobs.proofs.Ended.{word-there}
 
 module _ (s : ℕ) (side : isSide s ≡ true) (marks : List ℕ) (long : length marks ≡ cells s) (good : (k : ℕ) → k < length marks → getD marks k 0 < 2) where
@@ -90,7 +90,7 @@ module _ (s : ℕ) (side : isSide s ≡ true) (marks : List ℕ) (long : length 
       )
 
 -- a whole run of concentrate behind rank
-module _ {s : ℕ} {w m a w₂ m₂ a₂ codes moved : List ℕ} (b : Board s w m a w₂ m₂ a₂ codes moved) where
+module _ {s : ℕ} {w m a w₂ m₂ a₂ codes moved : List ℕ} (b : JobBoard s w m a w₂ m₂ a₂ codes moved) where
   long : length m ≡ cells s
   long = b .sized .marks
 

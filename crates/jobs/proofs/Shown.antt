@@ -7,13 +7,13 @@ use Rattle.texts.specs.Bytes.{bytes, same}
 use Rattle.texts.specs.Numbers.{digitsFrom, numberOf}
 use Rattle.texts.specs.Lines.{before, firstField, secondField, front, linesOf}
 use Rattle.printing.specs.Printed.{digits, line, rows}
-use Rattle.jobtext.specs.Verdicts.{sideOf, entryOf, also, cellsFrom, jobFrom, verdict}
+use Rattle.jobtext.specs.Verdicts.{sideOf, lineEntry, also, cellsFrom, jobFrom, verdict}
 use Rattle.answertext.specs.Log.{column, totalsOf}
 use Rattle.answertext.specs.Answers.{kindText, wayText, header, moveLine, allLine, recordLine, moveRow, recordRow, logText, refusedText}
 use Rattle.jobs.specs.Outputs.{outputOf}
 
 unfoldable pub written : String → List ℕ
-unfolding outputOf verdict jobFrom cellsFrom also linesOf front entryOf sideOf firstField secondField before numberOf digitsFrom same logText header rows moveRow moveLine recordRow recordLine allLine totalsOf column line kindText wayText digits refusedText
+unfolding outputOf verdict jobFrom cellsFrom also linesOf front lineEntry sideOf firstField secondField before numberOf digitsFrom same logText header rows moveRow moveLine recordRow recordLine allLine totalsOf column line kindText wayText digits refusedText
 written t = outputOf (verdict (bytes t))
 
 pub the-job :

@@ -6,7 +6,7 @@ use mathlib.Core.List.{List, []}
 use lib.ListN.{length, getD, take}
 use Rattle.laws.specs.Tables.{entries}
 use Rattle.array.specs.Cells.{isSide, cells}
-use Rattle.logs.specs.Runs.{codes as codesOf}
+use Rattle.runs.specs.Runs.{codes as codesOf}
 use Rattle.lists.specs.declared.Trip.the-variants.{Concentrate}
 use Rattle.lists.specs.Lists.{totalMoves, concentrateRuns}
 use Rattle.slots.specs.Cells.{Sized}
@@ -14,7 +14,7 @@ use Rattle.records.specs.Records.{markedCell, countIn, movedCounts}
 use Rattle.answertext.specs.Answers.{answerText}
 
 -- six lanes of a board, with marks that are marks, and logs that are long enough for every side
-pub record Board (s : ℕ) (w m a w₂ m₂ a₂ codes moved : List ℕ) : Type 0 where
+pub record JobBoard (s : ℕ) (w m a w₂ m₂ a₂ codes moved : List ℕ) : Type 0 where
   pub side : isSide s ≡ true
   pub sized : Sized (cells s) w m a w₂ m₂ a₂
   pub marked : (k : ℕ) → k < length m → getD m k 0 < 2
@@ -28,7 +28,7 @@ pub record Settled (s : ℕ) (w m w′ codes′ moved′ : List ℕ) : Type 0 wh
   pub worded : (r : ℕ) → r < countIn s m → r < cells s → getD w′ r 0 ≡ getD w (markedCell m (cells s) r) 0
 
 -- a board's words and marks, with so many marked cells
-pub record Lanes (s marked : ℕ) (w m : List ℕ) : Type 0 where
+pub record JobLanes (s marked : ℕ) (w m : List ℕ) : Type 0 where
   pub side : isSide s ≡ true
   pub words-long : length w ≡ cells s
   pub marks-long : length m ≡ cells s

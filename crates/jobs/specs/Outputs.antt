@@ -6,7 +6,7 @@ use lib.ListN.{length, getD}
 use lib.Dec.{eqb}
 use Rattle.laws.specs.Sums.{sum}
 use Rattle.laws.specs.Tables.{entries}
-use Rattle.logs.specs.Runs.{codes}
+use Rattle.runs.specs.Runs.{codes}
 use Rattle.lists.specs.Lists.{concentrateRuns}
 use Rattle.travel.specs.Travel.{concentrateMoves, stands}
 use Rattle.jobtext.specs.Verdicts.{Marked, Verdict, accepted, refused}

@@ -15,7 +15,7 @@ ghost use Rattle.array.specs.Cells.{isSide, cells};
 ghost use Rattle.jobtext.specs.Verdicts.{verdict};
 ghost use Rattle.jobs.specs.Outputs.{outputOf};
 ghost use Rattle.jobs.specs.Filled.{Filled, refusalOf, printedOf};
-ghost use Rattle.jobs.specs.Inside.{Board, Settled, Lanes, lanesText};
+ghost use Rattle.jobs.specs.Inside.{JobBoard, Settled, JobLanes, lanesText};
 
 // The line of a refused job: nothing where the job is one.
 fn refuse(out: &mut [u8; 196608], job: Job) -> usize
@@ -57,7 +57,7 @@ fn settle(
     codes: &mut [u8],
     moved: &mut [u16],
 )
-    requires { ⌜ Board side (now words) (now marks) (now aims) (now «spare_words») (now «spare_marks») (now «spare_aims») (now codes) (now moved) ⌝ }
+    requires { ⌜ JobBoard side (now words) (now marks) (now aims) (now «spare_words») (now «spare_marks») (now «spare_aims») (now codes) (now moved) ⌝ }
     ensures { λ _. ⌜ Settled side (old words) (old marks) (new words) (new codes) (new moved) ⌝ }
 {
     rank(side, marks, aims, codes);
@@ -114,7 +114,7 @@ fn solve(
     words: &mut [u32],
     marks: &mut [u8],
 ) -> usize
-    requires { ⌜ Lanes side marked (now words) (now marks) ⌝ }
+    requires { ⌜ JobLanes side marked (now words) (now marks) ⌝ }
     ensures { λ r. ⌜ Filled (old out) (lanesText side marked (old words) (old marks)) r (new out) ⌝ }
 {
     let mut codes = [0u8; 51];

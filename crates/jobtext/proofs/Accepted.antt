@@ -7,7 +7,7 @@ use native.Mathlib.Omega.{arith}
 use lib.ListN.{length, getD, set, take, length-set}
 use lib.Dec.{leb, ltb, eqb}
 use borrow.Author.Tests.{lt-ltb, ne-eqb, eqb-true, eqb-false, leb-true, leb-false}
-use Rattle.jobtext.specs.Verdicts.{entryOf, Marked, Verdict, accepted, refused, also, cellsFrom, verdict, sideOf, jobFrom}
+use Rattle.jobtext.specs.Verdicts.{lineEntry, Marked, Verdict, accepted, refused, also, cellsFrom, verdict, sideOf, jobFrom}
 use Rattle.texts.specs.Lines.{Line, ended, unended, linesOf}
 use Rattle.texts.specs.declared.read.Number.{Number}
 use Rattle.texts.specs.declared.read.Number.the-variants.{Of, Not}
@@ -36,9 +36,9 @@ pub sound : (s next k : ℕ) (ls : List Line) → Sound s next (cellsFrom s next
 unfolding Sound Rising cellsFrom
 sound s next k [] = (refl, tt)
 sound s next k (unended ∷ ls) = tt
-sound s next k (ended line ∷ ls) = go (entryOf next (cells s) line) refl (λ i. sound s (suc i) (suc k) ls)
+sound s next k (ended line ∷ ls) = go (lineEntry next (cells s) line) refl (λ i. sound s (suc i) (suc k) ls)
   where
-    go : (e : Entry) → entryOf next (cells s) line ≡ e → ((i : ℕ) → Sound s (suc i) (cellsFrom s (suc i) (suc k) ls)) → Sound s next (cellsFrom s next k (ended line ∷ ls))
+    go : (e : Entry) → lineEntry next (cells s) line ≡ e → ((i : ℕ) → Sound s (suc i) (cellsFrom s (suc i) (suc k) ls)) → Sound s next (cellsFrom s next k (ended line ∷ ls))
     go (Cell i w) q ih = rw (q, cellsFrom) (sound-also s next i w _ (entry-in-order next (cells s) line i w q) (ih i))
     go Malformed q ih = rw (q, cellsFrom) tt
 

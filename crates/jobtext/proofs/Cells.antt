@@ -12,7 +12,7 @@ use Rattle.laws.proofs.Numbers.{square-grows, fourth-grows}
 use Rattle.texts.specs.Lines.{before, linesOf}
 use Rattle.texts.specs.Bytes.{lf}
 use Rattle.texts.proofs.Ended.{lines-ended, lines-unended}
-use Rattle.jobtext.specs.Verdicts.{entryOf, Marked, Verdict, accepted, refused, also, cellsFrom}
+use Rattle.jobtext.specs.Verdicts.{lineEntry, Marked, Verdict, accepted, refused, also, cellsFrom}
 use Rattle.array.specs.Cells.{cells}
 use Rattle.jobtext.specs.Lanes.{jobOf, laid, Laid, CellsRead}
 use Rattle.jobtext.specs.declared.Entry.{Entry}
@@ -41,11 +41,11 @@ module _ (s next k : ℕ) (t : List ℕ) where
   by-unended e h = rw (lines-unended t e h)
 
   module _ (h : before lf t < length t) where
-    by-malformed : entryOf next (cells s) (take (before lf t) t) ≡ Malformed → cellsFrom s next k (linesOf t) ≡ refused 8 k
+    by-malformed : lineEntry next (cells s) (take (before lf t) t) ≡ Malformed → cellsFrom s next k (linesOf t) ≡ refused 8 k
     unfolding cellsFrom
     by-malformed e = rw (lines-ended t h, e, cellsFrom)
 
-    by-cell : (i w : ℕ) → entryOf next (cells s) (take (before lf t) t) ≡ Cell i w → cellsFrom s next k (linesOf t) ≡ also i w (cellsFrom s (suc i) (suc k) (linesOf (drop (suc (before lf t)) t)))
+    by-cell : (i w : ℕ) → lineEntry next (cells s) (take (before lf t) t) ≡ Cell i w → cellsFrom s next k (linesOf t) ≡ also i w (cellsFrom s (suc i) (suc k) (linesOf (drop (suc (before lf t)) t)))
     unfolding cellsFrom
     by-cell i w e = rw (lines-ended t h, e, cellsFrom)
 
@@ -128,8 +128,8 @@ module _ {text : List ℕ} {side : ℕ} {words₀ marks₀ words marks : List �
     cells-unended u = refuse (by-unended side next line (drop at text) (omega (arith, at-end, long)) (rw length-drop (omega arith)))
 
     module _ (b : end ≤ length (take (length text - at) (drop at text))) (u : end ≡ length (take (length text - at) (drop at text)) → ⊥)
-        (r : Entry) (r-read : r ≡ entryOf next (cells side) (take end (take (length text - at) (drop at text)))) where
-      first : r ≡ entryOf next (cells side) (take (before lf (drop at text)) (drop at text))
+        (r : Entry) (r-read : r ≡ lineEntry next (cells side) (take end (take (length text - at) (drop at text)))) where
+      first : r ≡ lineEntry next (cells side) (take (before lf (drop at text)) (drop at text))
       first = r-read ∙ rw (at-end, rest)
 
       has : before lf (drop at text) < length (drop at text)
@@ -158,7 +158,7 @@ module _ {text : List ℕ} {side : ℕ} {words₀ marks₀ words marks : List �
             step = by-cell side next line (drop at text) has i w (sym first ∙ c) ∙ rw (← at-end) (simp (drop-drop, add-one))
 
 -- the index of an entry is one of the 4,096
-module _ (next s : ℕ) (line : List ℕ) (r : Entry) (r-read : r ≡ entryOf next (cells s) line) (i w : ℕ) (c : r ≡ Cell i w) (room : cells s ≤ 4096) where
+module _ (next s : ℕ) (line : List ℕ) (r : Entry) (r-read : r ≡ lineEntry next (cells s) line) (i w : ℕ) (c : r ≡ Cell i w) (room : cells s ≤ 4096) where
   pub cell-inside : i < 4096
   cell-inside = omega (arith, entry-in-order next (cells s) line i w (sym r-read ∙ c))
 

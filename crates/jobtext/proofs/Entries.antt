@@ -12,7 +12,7 @@ use Rattle.texts.proofs.Reading.{rest}
 use Rattle.texts.specs.Bytes.{bytes, tab, same}
 use Rattle.texts.specs.Lines.{before, firstField, secondField}
 use Rattle.texts.specs.Numbers.{numberOf}
-use Rattle.jobtext.specs.Verdicts.{sideIf, sideOf, pair, inOrder, entryOf}
+use Rattle.jobtext.specs.Verdicts.{sideIf, sideOf, pair, inOrder, lineEntry}
 use Rattle.jobtext.specs.declared.Entry.{Entry}
 use Rattle.jobtext.specs.declared.Entry.the-variants.{Cell, Malformed}
 use Rattle.texts.specs.declared.read.Number.{Number}
@@ -49,8 +49,8 @@ module _ (line : List ℕ) (at : ℕ) (tab-at : at ≡ before tab line) where
   side-unnamed t e f = rw (← first, ← e, f)
 
   module _ (next end : ℕ) where
-    pub entry-no-tab : at ≡ length line → Malformed ≡ entryOf next end line
-    unfolding entryOf numberOf
+    pub entry-no-tab : at ≡ length line → Malformed ≡ lineEntry next end line
+    unfolding lineEntry numberOf
     entry-no-tab e = rw (no-second e) (bad (numberOf (firstField line)))
       where
         bad : (n : Number) → Malformed ≡ inOrder next end (pair n Not)
@@ -58,32 +58,32 @@ module _ (line : List ℕ) (at : ℕ) (tab-at : at ≡ before tab line) where
         bad Not = refl
 
     module _ (n : Number) (n-read : n ≡ numberOf (take at line)) where
-      pub entry-no-index : n ≡ Not → Malformed ≡ entryOf next end line
-      unfolding entryOf
+      pub entry-no-index : n ≡ Not → Malformed ≡ lineEntry next end line
+      unfolding lineEntry
       entry-no-index e = rw (← first, ← n-read, e)
 
       module _ (i : ℕ) (e : n ≡ Of i) (m : Number) (m-read : m ≡ numberOf (take (length line - (at + 1)) (drop (at + 1) line))) where
-        pub entry-no-word : m ≡ Not → Malformed ≡ entryOf next end line
-        unfolding entryOf
+        pub entry-no-word : m ≡ Not → Malformed ≡ lineEntry next end line
+        unfolding lineEntry
         entry-no-word f = rw (← first, ← n-read, ← second, ← m-read, e, f)
 
         module _ (w : ℕ) (f : m ≡ Of w) where
-          ordered : cond (leb next i && ltb i end) (Cell i w) Malformed ≡ entryOf next end line
-          unfolding entryOf
+          ordered : cond (leb next i && ltb i end) (Cell i w) Malformed ≡ lineEntry next end line
+          unfolding lineEntry
           ordered = rw (← first, ← n-read, ← second, ← m-read, e, f)
 
-          pub entry-low : i < next → Malformed ≡ entryOf next end line
+          pub entry-low : i < next → Malformed ≡ lineEntry next end line
           entry-low l = rw (lt-leb next i l) at ordered
 
-          pub entry-high : next ≤ i → end ≤ i → Malformed ≡ entryOf next end line
+          pub entry-high : next ≤ i → end ≤ i → Malformed ≡ lineEntry next end line
           entry-high l u = rw (le-leb next i l, le-ltb i end u) at ordered
 
-          pub entry-cell : next ≤ i → i < end → Cell i w ≡ entryOf next end line
+          pub entry-cell : next ≤ i → i < end → Cell i w ≡ lineEntry next end line
           entry-cell l u = rw (le-leb next i l, lt-ltb i end u) at ordered
 
 -- an entry is in order
-pub entry-in-order : (next end : ℕ) (line : List ℕ) (i w : ℕ) → entryOf next end line ≡ Cell i w → (next ≤ i) × (i < end)
-unfolding entryOf
+pub entry-in-order : (next end : ℕ) (line : List ℕ) (i w : ℕ) → lineEntry next end line ≡ Cell i w → (next ≤ i) × (i < end)
+unfolding lineEntry
 entry-in-order next end line i w e = go (pair (numberOf (firstField line)) (numberOf (secondField line))) e
   where
     go : (p : Entry) → inOrder next end p ≡ Cell i w → (next ≤ i) × (i < end)

@@ -6,11 +6,11 @@ use mathlib.Core.List.{List, [], _∷_, map}
 use lib.ListN.{replicate}
 use Rattle.texts.specs.Bytes.{bytes, same}
 use Rattle.texts.specs.Lines.{linesOf, front, firstField, secondField, before}
-use Rattle.jobtext.specs.Verdicts.{Verdict, accepted, refused, Marked, verdict, jobFrom, cellsFrom, also, entryOf, sideOf}
+use Rattle.jobtext.specs.Verdicts.{Verdict, accepted, refused, Marked, verdict, jobFrom, cellsFrom, also, lineEntry, sideOf}
 use Rattle.texts.specs.Numbers.{numberOf, digitsFrom}
 
 unfoldable pub judged : List String → List Verdict
-unfolding verdict jobFrom cellsFrom also linesOf front entryOf sideOf firstField secondField before numberOf digitsFrom same
+unfolding verdict jobFrom cellsFrom also linesOf front lineEntry sideOf firstField secondField before numberOf digitsFrom same
 judged = map (λ t. verdict (bytes t))
 
 at : ℕ → ℕ → Marked

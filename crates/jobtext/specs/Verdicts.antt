@@ -31,8 +31,8 @@ inOrder next end (Cell i w) = cond (leb next i && ltb i end) (Cell i w) Malforme
 inOrder next end Malformed = Malformed
 
 -- the entry that a later line gives, where its index is at least next and below end
-unfoldable pub entryOf : ℕ → ℕ → List ℕ → Entry
-entryOf next end line = inOrder next end (pair (numberOf (firstField line)) (numberOf (secondField line)))
+unfoldable pub lineEntry : ℕ → ℕ → List ℕ → Entry
+lineEntry next end line = inOrder next end (pair (numberOf (firstField line)) (numberOf (secondField line)))
 
 -- a marked cell, and its word
 pub record Marked : Type 0 where
@@ -55,7 +55,7 @@ unfoldable pub cellsFrom : ℕ → ℕ → ℕ → List Line → Verdict
 cellsFrom s next k [] = accepted s []
 cellsFrom s next k (unended ∷ ls) = refused 8 k
 cellsFrom s next k (ended line ∷ ls) =
-    elim (entryOf next (cells s) line) [
+    elim (lineEntry next (cells s) line) [
       | Cell i w ↦ also i w (cellsFrom s (suc i) (suc k) ls)
       | Malformed ↦ refused 8 k
     ]

@@ -7,7 +7,7 @@ use texts::read::same;
 ghost use mathlib.Core.Path.{_≡_};
 ghost use Prim.Native.Nat.{_≤_, _<_};
 ghost use Rattle.texts.specs.Lines.{linesOf};
-ghost use Rattle.jobtext.specs.Verdicts.{sideOf, entryOf, cellsFrom, verdict};
+ghost use Rattle.jobtext.specs.Verdicts.{sideOf, lineEntry, cellsFrom, verdict};
 ghost use Rattle.jobtext.specs.Lanes.{CellsRead, JobRead};
 
 // What a line is, after the first: a marked cell.
@@ -39,7 +39,7 @@ fn read_side(line: &[u8]) -> Number
 
 // The index and the word that a later line gives, where the index is at least next and below end.
 fn read_entry(line: &[u8], next: usize, end: usize) -> Entry
-    ensures { λ r. ⌜ r ≡ entryOf next end (now (line .entry)) ⌝ }
+    ensures { λ r. ⌜ r ≡ lineEntry next end (now (line .entry)) ⌝ }
 {
     let at = bytes_before(line, 9);
     if at == line.len() {

@@ -12,9 +12,9 @@ use Rattle.laws.proofs.Tables.{entries-all, entries-cong, entries-same}
 use Rattle.array.specs.Cells.{groups, cells, group, place, row, column, partner}
 use Rattle.array.proofs.Board.{cell-of, place-is, group-in, place-in, row-in, column-in, group-of, place-of}
 use Rattle.lanes.specs.Machine.{State, at, load, unload, valueAt}
-use Rattle.lanes.specs.Inside.{Holds}
+use Rattle.lanes.specs.Inside.{HoldsWords}
 
-pub holds-load : (s : ℕ) (l : List ℕ) → Holds s l (load s l)
+pub holds-load : (s : ℕ) (l : List ℕ) → HoldsWords s l (load s l)
 holds-load s l = record { is = λ c d a b _ _ _ _. refl }
 
 -- places and cells from coordinates
@@ -45,7 +45,7 @@ module _ (s i : ℕ) (pos : 1 ≤ s) (i-in : i < cells s) where
   at-is = rw (place-is s (group s i), place-is s (place s i)) (cell-of s i)
 
 -- a list that holds a state is that state's list
-pub unloaded : (s : ℕ) (l : List ℕ) (σ : State ℕ) → 1 ≤ s → length l ≡ cells s → Holds s l σ → l ≡ unload s σ
+pub unloaded : (s : ℕ) (l : List ℕ) (σ : State ℕ) → 1 ≤ s → length l ≡ cells s → HoldsWords s l σ → l ≡ unload s σ
 unloaded s l σ pos size h = entries-all (valueAt s σ) (cells s) 0 l size (λ i k.
     ap (λ z. getD l z 0) (sym (at-is s i pos k)) ∙ h .is _ _ _ _ (c-in s i pos k) (d-in s i pos k) (a-in s i pos k) (b-in s i pos k))
 

@@ -12,15 +12,15 @@ use Rattle.laws.proofs.Bools.{both-left, both-right}
 use Rattle.laws.proofs.Numbers.{square-grows, fourth-grows}
 use Rattle.laws.proofs.Tables.{entry-at, length-entries}
 use Rattle.array.specs.declared.moves.Way.{Way}
-use Rattle.array.specs.Cells.{isSide, groups, cells, place, partner}
+use Rattle.array.specs.Cells.{isSide, groups, cells, place, partner, isBoard}
 use Rattle.array.proofs.Board.{group-of, place-of, side-known}
-use Rattle.light.specs.Lane.{isBoard, swappedLane}
+use Rattle.light.specs.Lane.{swappedLane}
 use Rattle.sums.specs.declared.Combining.{Combining}
 use Rattle.lanes.specs.declared.Joining.{Joining}
 use Rattle.lanes.specs.Machine.{State, all, at, load, unload, valueAt}
 use Rattle.sums.specs.Sums.{cellwise, combineOf, combinedWords}
 use Rattle.lanes.specs.Runs.{running, isRun, ranWords}
-use Rattle.lanes.specs.Inside.{Board, Holds, Lane, Moved, swapped}
+use Rattle.lanes.specs.Inside.{FitsBoard, HoldsWords, Lane, Moved, swapped}
 use Rattle.lanes.proofs.Agreeing.{all-same}
 use Rattle.lanes.proofs.Coordinates.{place<, at<, partner-at, holds-load, unloaded}
 
@@ -30,20 +30,20 @@ pub record Sizes (s n : ℕ) : Type 0 where
   pub groups-few : groups s ≤ 64
   pub groups-pos : 0 < groups s
 
-pub sizes : {s n : ℕ} → Board s n → Sizes s n
+pub sizes : {s n : ℕ} → FitsBoard s n → Sizes s n
 sizes b = record { few = rw (b .whole) (fourth-grows (b .most)); groups-few = square-grows (b .most); groups-pos = mul-pos (b .least) (b .least) }
 
-pub board-known : (s n : ℕ) → isBoard s n ≡ true → Board s n
+pub board-known : (s n : ℕ) → isBoard s n ≡ true → FitsBoard s n
 board-known s n h =
     let side = side-known s (both-left (isSide s) (eqb n (cells s)) h) in
     record { least = side .least; most = side .most; whole = eqb-true n (cells s) (both-right (isSide s) (eqb n (cells s)) h) }
 
-pub board-is : (s n : ℕ) → Board s n → isBoard s n ≡ true
+pub board-is : (s n : ℕ) → FitsBoard s n → isBoard s n ≡ true
 board-is s n b = rw (le-leb 1 s (b .least), le-leb s 8 (b .most)) (eq-eqb n (cells s) (b .whole))
 
 -- a run on a board
 pub record OnBoard (s e n m : ℕ) : Type 0 where
-  pub board : Board s m
+  pub board : FitsBoard s m
   pub start : e ≤ s
   pub most : n ≤ s
 
@@ -56,18 +56,18 @@ run-known s e n m h =
       most = leb-true n s (both-right (leb e s) (leb n s) r);
     }
 
-run-is : (s e n m : ℕ) → Board s m → e ≤ s → n ≤ s → (isBoard s m && isRun s e n) ≡ true
+run-is : (s e n m : ℕ) → FitsBoard s m → e ≤ s → n ≤ s → (isBoard s m && isRun s e n) ≡ true
 run-is s e n m b h h′ = rw (board-is s m b, le-leb e s h, le-leb n s h′)
 
 -- a list's own state, and the list of a state
-pub lane-load : {s : ℕ} {l : List ℕ} → Board s (length l) → Lane s l (load s l)
+pub lane-load : {s : ℕ} {l : List ℕ} → FitsBoard s (length l) → Lane s l (load s l)
 lane-load {s} {l} b = record { board = b; holds = holds-load s l }
 
 pub lane-words : {s : ℕ} {l : List ℕ} {σ : State ℕ} → Lane s l σ → l ≡ unload s σ
 lane-words {s} {l} {σ} z = unloaded s l σ (z .board .least) (z .board .whole) (z .holds)
 
 -- a lane of a board as a list
-pub moved-words : (s : ℕ) (f : State ℕ → State ℕ) (l l′ : List ℕ) → Board s (length l) → length l′ ≡ length l → Moved s f l l′ → l′ ≡ unload s (f (load s l))
+pub moved-words : (s : ℕ) (f : State ℕ → State ℕ) (l l′ : List ℕ) → FitsBoard s (length l) → length l′ ≡ length l → Moved s f l l′ → l′ ≡ unload s (f (load s l))
 moved-words s f l l′ b e x = unloaded s l′ (f (load s l)) (b .least) (e ∙ b .whole) (x .so (load s l) (holds-load s l))
 
 pub ran-moved : (s : ℕ) (w : Way) (j : Joining) (e n : ℕ) (l l′ : List ℕ) → (isBoard s (length l) && isRun s e n) ≡ true → length l′ ≡ length l
@@ -78,7 +78,7 @@ value-at : (s : ℕ) (σ : State ℕ) (c d a b : ℕ) → d < s → a < s → b 
 value-at s σ c d a b hd ha hb =
     rw (group-of s (c * s + d) (a * s + b) (place< ha hb), place-of s (c * s + d) (a * s + b) (place< ha hb), digits-div c hd, digits-mod c hd, digits-div a hb, digits-mod a hb)
 
-unload-holds : (s : ℕ) (σ : State ℕ) → Holds s (unload s σ) σ
+unload-holds : (s : ℕ) (σ : State ℕ) → HoldsWords s (unload s σ) σ
 unload-holds s σ = record {
   is = λ c d a b hc hd ha hb. entry-at (valueAt s σ) (cells s) (at s c d a b) 0 (at< s c d a b hc hd ha hb) ∙ value-at s σ c d a b hd ha hb;
 }

@@ -10,7 +10,7 @@ use borrow.Author.Tests.{eq-eqb, ne-eqb, lt-ltb}
 use Rattle.laws.specs.Sums.{sum}
 use Rattle.array.specs.declared.moves.Way.{Way}
 use Rattle.array.specs.declared.moves.Way.the-variants.{Right, Left, Up, Down}
-use Rattle.logs.specs.Runs.{along}
+use Rattle.runs.specs.Runs.{along}
 use Rattle.lanes.specs.Machine.{State, Rule, Stage, fromBefore, fromAfter, ran, all}
 use Rattle.sums.specs.Sums.{plus}
 use Rattle.lanes.specs.Stages.{front, from, word, copy}

@@ -8,7 +8,7 @@ use Rattle.array.specs.declared.moves.Way.{Way}
 use Rattle.array.specs.declared.moves.Way.the-variants.{Right, Left, Up, Down}
 use Rattle.array.specs.declared.moves.Move.{Move}
 use Rattle.array.specs.declared.moves.Move.the-variants.{Swap, Electronic}
-use Rattle.logs.specs.declared.Run.{Run}
+use Rattle.runs.specs.declared.Run.{Run}
 use Rattle.lanes.specs.Machine.{State, Rule, Stage, fromBefore, receive, make, ran, all}
 use Rattle.lanes.specs.Stages.{front, from, word, stepsOn, position}
 

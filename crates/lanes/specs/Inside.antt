@@ -24,7 +24,7 @@ use Rattle.lanes.specs.Stages.{position, word}
 use Rattle.lanes.specs.Runs.{ruleOf}
 
 -- a lane of n words is one of a board of side s
-pub record Board (s n : ℕ) : Type 0 where
+pub record FitsBoard (s n : ℕ) : Type 0 where
   pub least : 1 ≤ s
   pub most : s ≤ 8
   pub whole : n ≡ cells s
@@ -36,13 +36,13 @@ pub record Group (s n : ℕ) : Type 0 where
   pub whole : n ≡ groups s
 
 -- the words of l are those of the state σ
-pub record Holds (s : ℕ) (l : List ℕ) (σ : State ℕ) : Type 0 where
+pub record HoldsWords (s : ℕ) (l : List ℕ) (σ : State ℕ) : Type 0 where
   pub is : (c d a b : ℕ) → c < s → d < s → a < s → b < s → getD l (at s c d a b) 0 ≡ σ c d a b
 
 -- a lane of words of a board of side s, which are those of the state σ
 pub record Lane (s : ℕ) (l : List ℕ) (σ : State ℕ) : Type 0 where
-  pub board : Board s (length l)
-  pub holds : Holds s l σ
+  pub board : FitsBoard s (length l)
+  pub holds : HoldsWords s l σ
 
 -- whatever state a lane held, now it holds what f makes of it
 pub record Moves (s : ℕ) (f : State ℕ → State ℕ) (l l′ : List ℕ) : Type 0 where
@@ -54,7 +54,7 @@ swapped σ c d a b = σ a b c d
 
 -- inside this crate the board is known
 pub record Moved (s : ℕ) (f : State ℕ → State ℕ) (l l′ : List ℕ) : Type 0 where
-  pub so : (σ : State ℕ) → Holds s l σ → Holds s l′ (f σ)
+  pub so : (σ : State ℕ) → HoldsWords s l σ → HoldsWords s l′ (f σ)
 
 -- the place of a group whose word comes to place i
 abbrev pub sourceOf : ℕ → Way → ℕ → Source

@@ -11,7 +11,7 @@ use Rattle.laws.specs.Tables.{entries}
 use Rattle.array.specs.declared.moves.Way.the-variants.{Right, Left, Up, Down}
 use Rattle.array.specs.declared.moves.Move.{Move}
 use Rattle.array.specs.declared.moves.Move.the-variants.{Swap, Electronic}
-use Rattle.logs.specs.declared.Run.{Run}
+use Rattle.runs.specs.declared.Run.{Run}
 use Rattle.array.specs.Cells.{cells, cell, group, place, row, column}
 
 -- by group row c, group column d, row a and column b

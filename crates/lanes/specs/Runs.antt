@@ -6,8 +6,8 @@ use mathlib.Core.List.{List}
 use lib.ListN.{length}
 use lib.Dec.{leb}
 use Rattle.array.specs.declared.moves.Way.{Way}
-use Rattle.logs.specs.Runs.{along}
-use Rattle.light.specs.Lane.{isBoard}
+use Rattle.runs.specs.Runs.{along}
+use Rattle.array.specs.Cells.{isBoard}
 use Rattle.lanes.specs.declared.Joining.{Joining}
 use Rattle.lanes.specs.declared.Joining.the-variants.{Add, Copy, Fill}
 use Rattle.lanes.specs.Machine.{Stage, all, load, unload}

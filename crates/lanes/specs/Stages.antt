@@ -5,7 +5,7 @@ use mathlib.Core.Option.{Option, none, some}
 use lib.Dec.{eqb}
 use Rattle.array.specs.declared.moves.Way.{Way}
 use Rattle.array.specs.declared.moves.Way.the-variants.{Right, Left, Up, Down}
-use Rattle.logs.specs.Runs.{along, swapping}
+use Rattle.runs.specs.Runs.{along, swapping}
 use Rattle.lanes.specs.Machine.{Stage}
 
 -- the position of the cell in row a and column b on the line that a way goes along

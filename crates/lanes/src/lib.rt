@@ -2,12 +2,12 @@
 mod steps;
 
 use crate::steps::run_board;
+use array::cells::is_board;
 use array::moves::Way;
-use light::is_board;
 ghost use mathlib.Core.Path.{_≡_};
 ghost use mathlib.Core.Bool.{_&&_};
 ghost use lib.ListN.{length};
-ghost use Rattle.light.specs.Lane.{isBoard};
+ghost use Rattle.array.specs.Cells.{isBoard};
 ghost use Rattle.lanes.specs.Runs.{isRun, ranWords};
 
 // How a cell takes a word: it adds it, or has it in place of its own, when it is the turn of its position; or it fills itself with it always.

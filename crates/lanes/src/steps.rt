@@ -9,7 +9,7 @@ ghost use lib.ListN.{length};
 ghost use lib.Dec.{ltb};
 ghost use Rattle.lanes.specs.Machine.{all};
 ghost use Rattle.lanes.specs.Stages.{stepsOn};
-ghost use Rattle.lanes.specs.Inside.{Board, Group, Moved, Places, Apart, Laid, joinFrom, joinOf, behindOf, alongOf, acrossOf, lineAt, LineIn, orderOf, turned, filling, stepped, steppedAll};
+ghost use Rattle.lanes.specs.Inside.{FitsBoard, Group, Moved, Places, Apart, Laid, joinFrom, joinOf, behindOf, alongOf, acrossOf, lineAt, LineIn, orderOf, turned, filling, stepped, steppedAll};
 ghost use Rattle.lanes.specs.Runs.{running};
 
 // What the cells do in one move; the front is the position whose turn it is.
@@ -237,7 +237,7 @@ fn step(part: &mut [u32], side: usize, way: Way, rule: Rule, line: Line)
 
 // One move of all groups: each is lent its own stretch of the lane.
 fn step_all(words: &mut [u32], side: usize, way: Way, rule: Rule)
-    requires { ⌜ Board side (length (now words)) ⌝ }
+    requires { ⌜ FitsBoard side (length (now words)) ⌝ }
     ensures { λ _. ⌜ Moved side (steppedAll side way rule) (now (words .entry)) (now (words .exit)) ⌝ }
 {
     let line = line_at(side, way, rule.front);
@@ -273,7 +273,7 @@ pub(crate) fn run_board(
     e: usize,
     n: usize,
 )
-    requires { ⌜ Board side (length (now words)) ⌝ }
+    requires { ⌜ FitsBoard side (length (now words)) ⌝ }
     requires { ⌜ (e ≤ 8) × (n ≤ 8) ⌝ }
     ensures { λ _. ⌜ Moved side (all side (running way joining e n)) (now (words .entry)) (now (words .exit)) ⌝ }
 {

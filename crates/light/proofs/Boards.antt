@@ -3,7 +3,7 @@ use Prim.Native.Nat.{ℕ}
 use mathlib.Core.Path.{_≡_}
 use mathlib.Core.Bool.{true}
 use Rattle.laws.proofs.Bools.{both-left, both-right}
-use Rattle.light.specs.Lane.{isBoard}
+use Rattle.array.specs.Cells.{isBoard}
 use Rattle.light.specs.Lanes.{areSlots}
 
 pub record Boards (s a b c : ℕ) : Type 0 where

@@ -10,9 +10,9 @@ use lib.Dec.{eqb}
 use lib.ListN.{length, getD, set}
 use Rattle.laws.proofs.Bools.{both-left, both-right}
 use Rattle.laws.proofs.Trading.{Paired, Traded, traded-start, traded-turn, traded-end}
-use Rattle.array.specs.Cells.{isSide, cells, partner}
+use Rattle.array.specs.Cells.{isSide, cells, partner, isBoard}
 use Rattle.array.proofs.Board.{Side, side-known, partner-in, partner-twice}
-use Rattle.light.specs.Lane.{isBoard, swappedLane}
+use Rattle.light.specs.Lane.{swappedLane}
 use Rattle.light.proofs.Partners.{first-partner}
 
 pub board-side : (s n : ℕ) → isBoard s n ≡ true → isSide s ≡ true

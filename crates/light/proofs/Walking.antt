@@ -14,9 +14,9 @@ use Rattle.laws.proofs.Sums.{sum-cong}
 use Rattle.laws.proofs.Totals.{sum-few}
 use Rattle.laws.proofs.Tables.{entry-at, length-entries}
 use Rattle.laws.proofs.Trading.{Paired}
-use Rattle.array.specs.Cells.{isSide, cells, partner}
+use Rattle.array.specs.Cells.{isSide, cells, partner, isBoard}
 use Rattle.array.proofs.Board.{Side}
-use Rattle.light.specs.Lane.{isBoard, swappedLane}
+use Rattle.light.specs.Lane.{swappedLane}
 use Rattle.light.specs.Counts.{markCount, leavesOf, leavingOf}
 use Rattle.light.specs.Lanes.{Slots, slots, onBoard, each, swappedBy, Table, Swapped}
 use Rattle.light.specs.Inside.{exchanged, Traded, Once, Times}

@@ -10,7 +10,7 @@ use Rattle.laws.specs.Lent.{Slice, Lent, old, new}
 use Rattle.array.specs.Cells.{cells, cell, partner}
 use Rattle.light.specs.Lane.{swappedLane}
 use Rattle.light.specs.Counts.{markCount, leavingOf}
-use Rattle.light.specs.Lanes.{areLanes, Slots, slots, each, swappedBy, before, after, Swapped}
+use Rattle.light.specs.Lanes.{areLanes, Slots, slots, each, swappedBy, tableBefore, tableAfter, Swapped}
 
 -- a list of partners, as far as it goes; an empty one is as good
 pub record Listed (s : ℕ) (list : List ℕ) : Type 0 where
@@ -72,4 +72,4 @@ abbrev pub TradedTimes : ℕ → ℕ → Lent → Lent → Lent → ℕ → Type
 TradedTimes s n w m a r = Times s n (slots (old w) (old m) (old a)) (slots (new w) (new m) (new a)) r
 
 abbrev pub TradedLanes : ℕ → ℕ → Lent → Lent → Lent → Lent → Lent → Lent → ℕ → Type 0
-TradedLanes s n w m a w₂ m₂ a₂ r = Swapped s n (before w m a w₂ m₂ a₂) (after w m a w₂ m₂ a₂) r
+TradedLanes s n w m a w₂ m₂ a₂ r = Swapped s n (tableBefore w m a w₂ m₂ a₂) (tableAfter w m a w₂ m₂ a₂) r

@@ -6,7 +6,8 @@ use mathlib.Core.List.{List}
 use lib.Dec.{eqb}
 use lib.ListN.{length}
 use Rattle.laws.specs.Lent.{Lent, old, new}
-use Rattle.light.specs.Lane.{isBoard, swappedLane}
+use Rattle.array.specs.Cells.{isBoard}
+use Rattle.light.specs.Lane.{swappedLane}
 use Rattle.light.specs.Counts.{leavingOf}
 
 -- three lanes of these lengths, and six, are those of a board
@@ -48,11 +49,11 @@ pub record Table : Type 0 where
   pub spare : Slots
 
 -- six lent lanes as they were, and as they are
-abbrev pub before : Lent → Lent → Lent → Lent → Lent → Lent → Table
-before w m a w₂ m₂ a₂ = record { front = slots (old w) (old m) (old a); spare = slots (old w₂) (old m₂) (old a₂) }
+abbrev pub tableBefore : Lent → Lent → Lent → Lent → Lent → Lent → Table
+tableBefore w m a w₂ m₂ a₂ = record { front = slots (old w) (old m) (old a); spare = slots (old w₂) (old m₂) (old a₂) }
 
-abbrev pub after : Lent → Lent → Lent → Lent → Lent → Lent → Table
-after w m a w₂ m₂ a₂ = record { front = slots (new w) (new m) (new a); spare = slots (new w₂) (new m₂) (new a₂) }
+abbrev pub tableAfter : Lent → Lent → Lent → Lent → Lent → Lent → Table
+tableAfter w m a w₂ m₂ a₂ = record { front = slots (new w) (new m) (new a); spare = slots (new w₂) (new m₂) (new a₂) }
 
 -- table t after n swaps, of which each takes r records to another cell
 pub record Swapped (s n : ℕ) (t u : Table) (r : ℕ) : Type 0 where
@@ -62,4 +63,4 @@ pub record Swapped (s n : ℕ) (t u : Table) (r : ℕ) : Type 0 where
 
 -- n swaps of lent lanes; none, where they are not a board's
 abbrev pub SwappedLanes : ℕ → ℕ → Lent → Lent → Lent → Lent → Lent → Lent → ℕ → Type 0
-SwappedLanes s n w m a w₂ m₂ a₂ r = Swapped s (cond (haveBoard s w m a w₂ m₂ a₂) n 0) (before w m a w₂ m₂ a₂) (after w m a w₂ m₂ a₂) r
+SwappedLanes s n w m a w₂ m₂ a₂ r = Swapped s (cond (haveBoard s w m a w₂ m₂ a₂) n 0) (tableBefore w m a w₂ m₂ a₂) (tableAfter w m a w₂ m₂ a₂) r

@@ -1,26 +1,15 @@
 // A swap: every cell and its partner, at the other end of the light, exchange what they hold, in a lane of words or in all six lanes.
-use array::cells::is_cells;
-use array::cells::is_side;
+use array::cells::is_board;
 use links::links;
 ghost use mathlib.Core.Path.{_≡_};
 ghost use mathlib.Core.Bool.{true, cond};
 ghost use Prim.Native.Nat.{ℕ, _+_, _≤_, _<_};
 ghost use lib.ListN.{length, getD};
-ghost use Rattle.array.specs.Cells.{isSide, groups, cells, cell, partner};
-ghost use Rattle.light.specs.Lane.{isBoard, swappedLane};
+ghost use Rattle.array.specs.Cells.{isBoard, isSide, groups, cells, cell, partner};
+ghost use Rattle.light.specs.Lane.{swappedLane};
 ghost use Rattle.light.specs.Counts.{markCount};
 ghost use Rattle.light.specs.Lanes.{areSlots, areLanes, onBoard, SwappedLanes};
 ghost use Rattle.light.specs.Inside.{Listed, GroupTurned, lent, lentBoard, HasCell, Exchanged, TradedSlot, SwappedOnce, TradedTimes, TradedLanes};
-
-// A lane of n entries is one of a board.
-pub fn is_board(side: usize, n: usize) -> bool
-    ensures { λ r. ⌜ r ≡ isBoard side n ⌝ }
-{
-    if is_side(side) {
-        return is_cells(side, n);
-    }
-    false
-}
 
 // Three lanes of these lengths are those of a board's front slots, or of its spare ones.
 fn are_slots(side: usize, words: usize, marks: usize, aims: usize) -> bool

@@ -5,8 +5,8 @@ use mathlib.Core.Bool.{true, cond}
 use native.Mathlib.Omega.{arith}
 use lib.ListN.{length}
 use Rattle.array.specs.Cells.{isSide, cells, group, place}
-use Rattle.logs.specs.Runs.{moves, electronic, swaps}
-use Rattle.logs.proofs.Lengths.{length-moves}
+use Rattle.runs.specs.Runs.{moves, electronic, swaps}
+use Rattle.runs.proofs.Lengths.{length-moves}
 use Rattle.lists.specs.Lists.{totalMoves, broadcastList, dataSumRuns, prefixSumRuns, concentrateRuns, distributeRuns}
 use Rattle.array.proofs.Board.{row-in, column-in, place-in, group-in}
 

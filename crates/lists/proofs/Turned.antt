@@ -5,9 +5,9 @@ use mathlib.Core.List.{List, [], _∷_, _++_, map, map-append, reverse, reverse-
 use lib.ListN.{replicate}
 use Rattle.laws.proofs.Reversed.{map-replicate, reverse-replicate}
 use Rattle.array.specs.declared.moves.Move.{Move}
-use Rattle.logs.specs.declared.Run.{Run}
+use Rattle.runs.specs.declared.Run.{Run}
 use Rattle.array.specs.Moves.{turned}
-use Rattle.logs.specs.Runs.{moves}
+use Rattle.runs.specs.Runs.{moves}
 use Rattle.lists.specs.Lists.{concentrateRuns, distributeRuns}
 
 abbrev turnedRun : Run → Run

@@ -8,13 +8,13 @@ use array::moves::RIGHT;
 use array::moves::SWAP;
 use array::moves::UP;
 use laws::over;
-use logs::Run;
-use logs::no_runs;
+use runs::Run;
+use runs::no_runs;
 ghost use mathlib.Core.Path.{_≡_};
 ghost use mathlib.Core.Bool.{cond};
 ghost use mathlib.Core.List.{map};
 ghost use Prim.Native.Nat.{_-_, _<_, _≤_};
-ghost use Rattle.logs.specs.Runs.{whole as wholeOf};
+ghost use Rattle.runs.specs.Runs.{whole as wholeOf};
 ghost use Rattle.array.specs.Cells.{isSide, groups as groupsOf};
 ghost use Rattle.lists.specs.Lists.{totalMoves, spreadRuns, broadcastRuns, dataSumRuns, prefixSumRuns, concentrateRuns, distributeRuns, runsOf};
 

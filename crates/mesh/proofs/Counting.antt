@@ -14,10 +14,10 @@ use Rattle.array.specs.Cells.{isSide, cells}
 use Rattle.array.proofs.Board.{Side, side-known}
 use Rattle.slots.specs.declared.Rec.{Rec}
 use Rattle.slots.specs.declared.Cell.{Cell}
-use Rattle.mesh.specs.declared.lines.Rule.{Rule}
+use Rattle.mesh.specs.declared.lines.LineRule.{LineRule}
 use Rattle.mesh.specs.declared.Leg.{Leg}
-use Rattle.mesh.specs.Lines.{headOf, reach, leaves, goesAt, distanceOf, wentOf, wentFrom, goesIn}
-use Rattle.mesh.specs.Mesh.{ruleOf, spotOf, goneIn, wentIn}
+use Rattle.mesh.specs.Lines.{headOf, reach, leaves, goesAt, cellsToGo, wentOf, wentFrom, goesIn}
+use Rattle.mesh.specs.Mesh.{lineRuleOf, spotOf, goneIn, wentIn}
 use Rattle.mesh.specs.Inside.{goneOf}
 use Rattle.mesh.proofs.Walking.{goes-in, gone-some, leaves-gone}
 use Rattle.mesh.proofs.Ruling.{distance-few}
@@ -29,9 +29,9 @@ spread true n f = refl
 spread false n f = sym (sum-zero (λ i. 0) n (λ i h. refl))
 
 -- one record, in cell p of its line
-module _ (t : Rule) (j p : ℕ) (x : Rec) (few : t .side ≤ 8) (pos : 0 < t .side) (p< : p < t .side) (h : j < t .made) (within : t .made ≤ t .times) where
+module _ (t : LineRule) (j p : ℕ) (x : Rec) (few : t .side ≤ 8) (pos : 0 < t .side) (p< : p < t .side) (h : j < t .made) (within : t .made ≤ t .times) where
   abbrev far : ℕ
-  far = distanceOf t p (headOf t x)
+  far = cellsToGo t p (headOf t x)
 
   abbrev goes : Bool
   goes = goesIn (t .late) (t .times) j far
@@ -83,11 +83,11 @@ unfolding reach
 reach-made s stride unit up down late times m m′ head p zero = refl
 reach-made s stride unit up down late times m m′ head p (suc k) = rw (reach-made s stride unit up down late times m m′ head p k)
 
-goes-made : (l : Leg) (m j p : ℕ) (x : Rec) → goesAt (ruleOf l) j p x ≡ goesAt (ruleOf (record { side = l .side; way = l .way; low = l .low; late = l .late; times = l .times; made = m })) j p x
+goes-made : (l : Leg) (m j p : ℕ) (x : Rec) → goesAt (lineRuleOf l) j p x ≡ goesAt (lineRuleOf (record { side = l .side; way = l .way; low = l .low; late = l .late; times = l .times; made = m })) j p x
 unfolding goesAt
 goes-made l m j p x =
-    let t = ruleOf l in
-    let e : (k : ℕ) → reach t (headOf t x) p k ≡ reach (ruleOf (record { side = l .side; way = l .way; low = l .low; late = l .late; times = l .times; made = m })) (headOf t x) p k = λ k.
+    let t = lineRuleOf l in
+    let e : (k : ℕ) → reach t (headOf t x) p k ≡ reach (lineRuleOf (record { side = l .side; way = l .way; low = l .low; late = l .late; times = l .times; made = m })) (headOf t x) p k = λ k.
     reach-made (t .side) (t .stride) (t .unit) (t .up) (t .down) (t .late) (t .times) (t .made) (min m (l .times)) (headOf t x) p k in
     ap₂ (λ (a b : ℕ). cond (eqb (x .mark) 0) 0 (cond (eqb a b) 0 1)) (e (suc j)) (e j)
 
@@ -95,17 +95,17 @@ goes-made l m j p x =
 abbrev pub upTo : Leg → ℕ → Leg
 upTo l m = record { side = l .side; way = l .way; low = l .low; late = l .late; times = l .times; made = m }
 
-pub gone-made : (l : Leg) (m j : ℕ) (T : ℕ → Cell) → goneIn (ruleOf l) j T ≡ goneIn (ruleOf (upTo l m)) j T
-gone-made l m j T = sum-cong (cells (l .side)) (λ i h. ap₂ _+_ (same (spotOf (ruleOf l) i) (T i .front)) (same (spotOf (ruleOf l) i) (T i .spare)))
+pub gone-made : (l : Leg) (m j : ℕ) (T : ℕ → Cell) → goneIn (lineRuleOf l) j T ≡ goneIn (lineRuleOf (upTo l m)) j T
+gone-made l m j T = sum-cong (cells (l .side)) (λ i h. ap₂ _+_ (same (spotOf (lineRuleOf l) i) (T i .front)) (same (spotOf (lineRuleOf l) i) (T i .spare)))
   where
-    same : (p : ℕ) (x : Rec) → goesAt (ruleOf l) j p x ≡ goesAt (ruleOf (upTo l m)) j p x
+    same : (p : ℕ) (x : Rec) → goesAt (lineRuleOf l) j p x ≡ goesAt (lineRuleOf (upTo l m)) j p x
     same p x = goes-made l m j p x
 
 -- how many go in move j, by how far those had to go that left
 pub gone-by-went : (l : Leg) (j : ℕ) (T : ℕ → Cell) → isSide (l .side) ≡ true → j < l .made → l .made ≤ l .times
-    → goneIn (ruleOf l) j T ≡ sum 8 (λ d. cond (goesIn (l .late) (l .times) j d) (wentIn (ruleOf l) d T) 0)
+    → goneIn (lineRuleOf l) j T ≡ sum 8 (λ d. cond (goesIn (l .late) (l .times) j d) (wentIn (lineRuleOf l) d T) 0)
 gone-by-went l j T side h u =
-    let t = ruleOf l in
+    let t = lineRuleOf l in
     let k = side-known (l .side) side in
     let n = cells (l .side) in
     let m : t .made ≡ l .made = omega arith in
@@ -122,7 +122,7 @@ gone-by-went l j T side h u =
     both false x y = refl
 
 -- few go in a move
-one-most : (t : Rule) (j p : ℕ) (x : Rec) → goesAt t j p x ≤ 1
+one-most : (t : LineRule) (j p : ℕ) (x : Rec) → goesAt t j p x ≤ 1
 unfolding goesAt
 one-most t j p x = go (eqb (x .mark) 0) (eqb (reach t (headOf t x) p (suc j)) (reach t (headOf t x) p j))
   where
@@ -131,13 +131,13 @@ one-most t j p x = go (eqb (x .mark) 0) (eqb (reach t (headOf t x) p (suc j)) (r
     go false true = omega arith
     go false false = omega arith
 
-pub gone-few : (l : Leg) (j : ℕ) (T : ℕ → Cell) → goneIn (ruleOf l) j T ≤ cells (l .side) * 2
+pub gone-few : (l : Leg) (j : ℕ) (T : ℕ → Cell) → goneIn (lineRuleOf l) j T ≤ cells (l .side) * 2
 gone-few l j T =
-    let t = ruleOf l in
+    let t = lineRuleOf l in
     sum-few (λ i. goesAt t j (spotOf t i) (T i .front) + goesAt t j (spotOf t i) (T i .spare)) 2
     (λ i. omega (arith, one-most t j (spotOf t i) (T i .front), one-most t j (spotOf t i) (T i .spare))) (cells (l .side))
 
-pub went-few : (l : Leg) (d : ℕ) (T : ℕ → Cell) → wentIn (ruleOf l) d T ≤ cells (l .side) * 2
+pub went-few : (l : Leg) (d : ℕ) (T : ℕ → Cell) → wentIn (lineRuleOf l) d T ≤ cells (l .side) * 2
 went-few l d T =
-    let t = ruleOf l in
+    let t = lineRuleOf l in
     sum-few (λ i. wentFrom t d (spotOf t i) (T i)) 2 (λ i. cell-few t d (spotOf t i) (T i)) (cells (l .side))

@@ -21,46 +21,46 @@ use Rattle.array.specs.Cells.{groups, cells, group}
 use Rattle.array.proofs.Board.{group-of}
 use Rattle.slots.specs.declared.Rec.{Rec}
 use Rattle.slots.specs.declared.Cell.{Cell}
-use Rattle.mesh.specs.declared.lines.Rule.{Rule}
-use Rattle.mesh.specs.Lines.{headOf, reach, leaves, noneLeaves, distanceOf, ranLine, wentOf, wentFrom}
+use Rattle.mesh.specs.declared.lines.LineRule.{LineRule}
+use Rattle.mesh.specs.Lines.{headOf, reach, leaves, noneLeaves, cellsToGo, ranLine, wentOf, wentFrom}
 use Rattle.mesh.specs.Mesh.{spotOf, lineCell, ranOn, wentIn, RanLanes}
 use Rattle.mesh.specs.Inside.{Strided, lineStep, movingGroups, Lies, RanLine, RanGroup, RanPart}
 use Rattle.mesh.proofs.Slots.{distinct}
 use Rattle.mesh.proofs.Spots.{by-stride, run-same, lineOf, Spotted, Split, spotted, split, line-in, line-cell, ran-spotted, ran-part, spot-shifted}
 
 -- few records leave a cell, and so a line and a group
-went-few : (t : Rule) (d p : ℕ) (x : Rec) → wentOf t d p x ≤ 1
+went-few : (t : LineRule) (d p : ℕ) (x : Rec) → wentOf t d p x ≤ 1
 unfolding wentOf
-went-few t d p x = go (leaves t p x) (eqb d (distanceOf t p (headOf t x)))
+went-few t d p x = go (leaves t p x) (eqb d (cellsToGo t p (headOf t x)))
   where
     go : (a b : Bool) → cond a (cond b 1 0) 0 ≤ 1
     go true true = omega arith
     go true false = omega arith
     go false b = omega arith
 
-pub cell-few : (t : Rule) (d p : ℕ) (c : Cell) → wentFrom t d p c ≤ 2
+pub cell-few : (t : LineRule) (d p : ℕ) (c : Cell) → wentFrom t d p c ≤ 2
 cell-few t d p c = omega (arith, went-few t d p (c .front), went-few t d p (c .spare))
 
 -- the lines below l have run, and the others are as they were
-pub record Lined (t : Rule) (l : ℕ) (T C : ℕ → Cell) (old counts : List ℕ) : Type 0 where
+pub record Lined (t : LineRule) (l : ℕ) (T C : ℕ → Cell) (old counts : List ℕ) : Type 0 where
   pub upto : l ≤ t .side
   pub long : length counts ≡ 8
   pub made : (i : ℕ) → i < groups (t .side) → C i ≡ cond (ltb (lineOf t i) l) (ranOn t T i) (T i)
   pub count : (d : ℕ) → d < 8 → getD counts d 0 ≡ getD old d 0 + sum l (λ k. sum (t .side) (λ p. wentFrom t d p (T (k * lineStep t + p * t .stride))))
 
-pub lined-start : (t : Rule) (T : ℕ → Cell) {old : List ℕ} → length old ≡ 8 → Lined t 0 T T old old
+pub lined-start : (t : LineRule) (T : ℕ → Cell) {old : List ℕ} → length old ≡ 8 → Lined t 0 T T old old
 lined-start t T {old} e = record { upto = omega arith; long = e; made = λ i h. rw (le-ltb (lineOf t i) 0 (omega arith)); count = λ d h. sym (add-zero (getD old d 0)) }
 
-pub lined-few : {t : Rule} {l : ℕ} {T C : ℕ → Cell} {old counts : List ℕ} → t .side ≤ 8 → Lined t l T C old counts → (d : ℕ) → d < 8 → getD counts d 0 ≤ getD old d 0 + 128
+pub lined-few : {t : LineRule} {l : ℕ} {T C : ℕ → Cell} {old counts : List ℕ} → t .side ≤ 8 → Lined t l T C old counts → (d : ℕ) → d < 8 → getD counts d 0 ≤ getD old d 0 + 128
 lined-few {t} {l} {T} few z d h =
     let a : (k : ℕ) → sum (t .side) (λ p. wentFrom t d p (T (k * lineStep t + p * t .stride))) ≤ 16 = λ k.
     omega (arith, few, sum-few (λ p. wentFrom t d p (T (k * lineStep t + p * t .stride))) 2 (λ p. cell-few t d p (T (k * lineStep t + p * t .stride))) (t .side)) in
     omega (arith, z .count d h, z .upto, few, sum-few (λ k. sum (t .side) (λ p. wentFrom t d p (T (k * lineStep t + p * t .stride)))) 16 a l)
 
-pub line-lies : (t : Rule) → 0 < t .side → t .side ≤ 8 → 0 < t .stride → Strided t → groups (t .side) ≤ 64 → (l : ℕ) → l < t .side → Lies t (groups (t .side)) (l * lineStep t)
+pub line-lies : (t : LineRule) → 0 < t .side → t .side ≤ 8 → 0 < t .stride → Strided t → groups (t .side) ≤ 64 → (l : ℕ) → l < t .side → Lies t (groups (t .side)) (l * lineStep t)
 line-lies t pos most stride z few l h = record { inside = λ p u. line-in t pos z l p h u; short = few; few = most; stride = stride }
 
-module _ {t : Rule} {l : ℕ} {T C C′ : ℕ → Cell} {old now₁ : List ℕ} {counts : Lent} (pos : 0 < t .side) (stride : 0 < t .stride) (z : Strided t) (h : l < t .side)
+module _ {t : LineRule} {l : ℕ} {T C C′ : ℕ → Cell} {old now₁ : List ℕ} {counts : Lent} (pos : 0 < t .side) (stride : 0 < t .stride) (z : Strided t) (h : l < t .side)
     (y : Lined t l T C old now₁) (r : RanLine t (l * lineStep t) counts C C′) where
   abbrev start : ℕ
   start = l * lineStep t
@@ -95,7 +95,7 @@ module _ {t : Rule} {l : ℕ} {T C C′ : ℕ → Cell} {old now₁ : List ℕ} 
   })
 
 -- the cells of a group, line by line and as they come
-by-cells : (t : Rule) → 0 < t .side → Strided t → (f : ℕ → ℕ) → sum (t .side) (λ l. sum (t .side) (λ p. f (l * lineStep t + p * t .stride))) ≡ sum (groups (t .side)) f
+by-cells : (t : LineRule) → 0 < t .side → Strided t → (f : ℕ → ℕ) → sum (t .side) (λ l. sum (t .side) (λ p. f (l * lineStep t + p * t .stride))) ≡ sum (groups (t .side)) f
 by-cells t pos z f =
     by-stride t pos z
     (λ e g. rw (g, e) (sum-cong (t .side) (λ l u. sum-cong (t .side) (λ p v. ap (λ (n : ℕ). f (l * t .side + n)) (mul-one p))) ∙ sym (sum-blocks (t .side) (t .side) f)))
@@ -104,7 +104,7 @@ by-cells t pos z f =
     ∙ sum-cong (t .side) (λ p u. sum-cong (t .side) (λ l v. ap f (omega arith)))
     ∙ sym (sum-blocks (t .side) (t .side) f)))
 
-pub lined-end : {t : Rule} {l : ℕ} {T C : ℕ → Cell} {old : List ℕ} {counts : Lent} → 0 < t .side → Strided t → t .side ≤ l → old ≡ now (counts .entry)
+pub lined-end : {t : LineRule} {l : ℕ} {T C : ℕ → Cell} {old : List ℕ} {counts : Lent} → 0 < t .side → Strided t → t .side ≤ l → old ≡ now (counts .entry)
     → Lined t l T C old (now (counts .exit)) → RanGroup t counts T C
 lined-end {t} {l} {T} {C} {old} {counts} pos z h e y =
     let f : l ≡ t .side = omega (arith, y .upto) in
@@ -116,24 +116,24 @@ lined-end {t} {l} {T} {C} {old} {counts} pos z h e y =
     }
 
 -- the groups below g have run, whose cells are those below base
-pub record Ranged (t : Rule) (g base : ℕ) (T C : ℕ → Cell) (counts : List ℕ) : Type 0 where
+pub record Ranged (t : LineRule) (g base : ℕ) (T C : ℕ → Cell) (counts : List ℕ) : Type 0 where
   pub upto : base ≡ g * groups (t .side)
   pub within : g ≤ groups (t .side)
   pub long : length counts ≡ 8
   pub made : (i : ℕ) → i < cells (t .side) → C i ≡ cond (ltb i base) (ranOn t T i) (T i)
   pub count : (d : ℕ) → d < 8 → getD counts d 0 ≡ sum base (λ i. wentFrom t d (spotOf t i) (T i))
 
-pub ranged-start : (t : Rule) (T : ℕ → Cell) {old : List ℕ} → length old ≡ 8 → ((d : ℕ) → getD old d 0 ≡ 0) → Ranged t 0 0 T T old
+pub ranged-start : (t : LineRule) (T : ℕ → Cell) {old : List ℕ} → length old ≡ 8 → ((d : ℕ) → getD old d 0 ≡ 0) → Ranged t 0 0 T T old
 ranged-start t T e f = record { upto = omega arith; within = omega arith; long = e; made = λ i u. rw (le-ltb i 0 (omega arith)); count = λ d h. f d }
 
-pub ranged-few : {t : Rule} {g base : ℕ} {T C : ℕ → Cell} {counts : List ℕ} → base ≤ 4096 → Ranged t g base T C counts → (d : ℕ) → d < 8 → getD counts d 0 ≤ 8192
+pub ranged-few : {t : LineRule} {g base : ℕ} {T C : ℕ → Cell} {counts : List ℕ} → base ≤ 4096 → Ranged t g base T C counts → (d : ℕ) → d < 8 → getD counts d 0 ≤ 8192
 ranged-few {t} {g} {base} {T} few z d h = omega (arith, few, z .count d h, sum-few (λ i. wentFrom t d (spotOf t i) (T i)) 2 (λ i. cell-few t d (spotOf t i) (T i)) base)
 
 -- the next group lies among the cells
 pub part-fits : (N g base : ℕ) → g < N → base ≡ g * N → base + N ≤ N * N
 part-fits N g base h e = omega (arith, mul-le-mul-right {m = suc g} {n = N} N h, suc-mul g N)
 
-module _ {t : Rule} {g base : ℕ} {T C : ℕ → Cell} {now₁ : List ℕ} (pos : 0 < t .side) (strided : Strided t) (l : g < groups (t .side)) (z : Ranged t g base T C now₁) where
+module _ {t : LineRule} {g base : ℕ} {T C : ℕ → Cell} {now₁ : List ℕ} (pos : 0 < t .side) (strided : Strided t) (l : g < groups (t .side)) (z : Ranged t g base T C now₁) where
   abbrev N : ℕ
   N = groups (t .side)
 
@@ -173,7 +173,7 @@ module _ {t : Rule} {g base : ℕ} {T C : ℕ → Cell} {now₁ : List ℕ} (pos
       above i u h = rw (le-ltb i (base + N) h) (m .after i h ∙ (rw (le-ltb i base (omega arith)) at (z .made i u)))
 
 -- a run of which no move is made does nothing
-module _ (t : Rule) (none : t .made ≡ 0) where
+module _ (t : LineRule) (none : t .made ≡ 0) where
   stays-there : (p : ℕ) (x : Rec) → leaves t p x ≡ false
   unfolding leaves reach
   stays-there p x = rw (none, eq-eqb p p refl) (either (eqb (x .mark) 0))
@@ -204,17 +204,17 @@ module _ (t : Rule) (none : t .made ≡ 0) where
   went-nothing d T = sum-zero (λ i. wentFrom t d (spotOf t i) (T i)) (cells (t .side)) (λ i w. went-none d (spotOf t i) (T i))
 
 -- the groups that have something to do are among all
-pub moving-few : (t : Rule) {g n : ℕ} → n ≡ movingGroups t → g < n → g < groups (t .side)
+pub moving-few : (t : LineRule) {g n : ℕ} → n ≡ movingGroups t → g < n → g < groups (t .side)
 moving-few t {g} {n} e h = go (eqb (t .made) 0) e
   where
     go : (b : Bool) → n ≡ cond b 0 (groups (t .side)) → g < groups (t .side)
     go true f = absurd (omega arith)
     go false f = omega arith
 
-pub ranged-end : {lanes : Bool} {t u : Rule} {g n base : ℕ} {T C : ℕ → Cell} {counts : List ℕ} → lanes ≡ true → t ≡ u → 0 < t .side → 0 < t .stride → n ≡ movingGroups t → n ≤ g
+pub ranged-end : {lanes : Bool} {t u : LineRule} {g n base : ℕ} {T C : ℕ → Cell} {counts : List ℕ} → lanes ≡ true → t ≡ u → 0 < t .side → 0 < t .stride → n ≡ movingGroups t → n ≤ g
     → Ranged t g base T C counts → RanLanes lanes u counts T C
 ranged-end {lanes} {t} {u} {g} {n} {base} {T} {C} {counts} e f pos stride k h z =
-    subst (λ (u : Rule). RanLanes lanes u counts T C) f
+    subst (λ (u : LineRule). RanLanes lanes u counts T C) f
     (record { made = λ y. made (eqb (t .made) 0) refl; went = λ y. went (eqb (t .made) 0) refl; kept = λ y. absurd (never e y); none = λ y. absurd (never e y) })
   where
     all : eqb (t .made) 0 ≡ false → base ≡ cells (t .side)

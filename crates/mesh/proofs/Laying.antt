@@ -21,10 +21,10 @@ use Rattle.laws.proofs.Setting.{getD-stored}
 use Rattle.slots.specs.declared.Rec.{Rec}
 use Rattle.slots.specs.declared.Cell.{Cell}
 use Rattle.slots.specs.Cells.{empty, joined, cellAt}
-use Rattle.mesh.specs.declared.lines.Rule.{Rule}
+use Rattle.mesh.specs.declared.lines.LineRule.{LineRule}
 use Rattle.mesh.specs.declared.lines.Arrival.{Arrival}
-use Rattle.mesh.specs.Lines.{headOf, endOf, reach, leaves, noneLeaves, isStill, landed, laid, ranLine, distanceOf, wentOf, wentFrom}
-use Rattle.mesh.specs.Inside.{goneOf, slotOf, slotIn, slotsAt, Taken, Laid, cellsOf, Lands, Arrives, settled, Settled, RanLine}
+use Rattle.mesh.specs.Lines.{headOf, endOf, reach, leaves, noneLeaves, isStill, landed, laid, ranLine, cellsToGo, wentOf, wentFrom}
+use Rattle.mesh.specs.Inside.{goneOf, slotOf, slotIn, slotsAt, Taken, Laid, cellsOf, Lands, Arrives, settled, PutDown, RanLine}
 use Rattle.mesh.proofs.Walking.{leaves-gone}
 use Rattle.mesh.proofs.Ruling.{distance-few}
 use Rattle.mesh.proofs.Slots.{leaves-same}
@@ -39,23 +39,23 @@ one-less : (b : Bool) (c c' : Cell) → c ≡ c' → cond b c c' ≡ c'
 one-less true c c' e = e
 one-less false c c' e = refl
 
-none-went : (t : Rule) (d p : ℕ) (x : Rec) → x .mark ≡ 0 → wentOf t d p x ≡ 0
+none-went : (t : LineRule) (d p : ℕ) (x : Rec) → x .mark ≡ 0 → wentOf t d p x ≡ 0
 unfolding wentOf leaves
 none-went t d p x e = rw e
 
 -- a record with a mark went where it lands in another cell
-went-lands : (t : Rule) (d p : ℕ) (x : Rec) {r : Arrival} → (x .mark ≡ 0 → ⊥) → Lands t p (headOf t x) r → wentOf t d p x ≡ cond (eqb d (r .far)) (r .went) 0
+went-lands : (t : LineRule) (d p : ℕ) (x : Rec) {r : Arrival} → (x .mark ≡ 0 → ⊥) → Lands t p (headOf t x) r → wentOf t d p x ≡ cond (eqb d (r .far)) (r .went) 0
 unfolding wentOf leaves
-went-lands t d p x {r} m z = rw (ne-eqb (x .mark) 0 m, z .far, z .went, z .at) (go (eqb (endOf t p x) p) (eqb d (distanceOf t p (headOf t x))))
+went-lands t d p x {r} m z = rw (ne-eqb (x .mark) 0 m, z .far, z .went, z .at) (go (eqb (endOf t p x) p) (eqb d (cellsToGo t p (headOf t x))))
   where
     go : (a b : Bool) → _≡_ {A = ℕ} (cond (not a) (cond b 1 0) 0) (cond b (cond a 0 1) 0)
     go true true = refl
     go true false = refl
     go false b = refl
 
-went-most : (t : Rule) (d p : ℕ) (x : Rec) → wentOf t d p x ≤ 1
+went-most : (t : LineRule) (d p : ℕ) (x : Rec) → wentOf t d p x ≤ 1
 unfolding wentOf
-went-most t d p x = go (leaves t p x) (eqb d (distanceOf t p (headOf t x)))
+went-most t d p x = go (leaves t p x) (eqb d (cellsToGo t p (headOf t x)))
   where
     go : (a b : Bool) → cond a (cond b 1 0) 0 ≤ 1
     go true true = omega arith
@@ -63,7 +63,7 @@ went-most t d p x = go (leaves t p x) (eqb d (distanceOf t p (headOf t x)))
     go false b = omega arith
 
 -- the arrival of a record, of numbers that the code has
-pub lands : {t : Rule} {p h on : ℕ} {r : Arrival} → t .side ≤ 8 → t .made ≤ t .times → p < t .side → h < t .side → r .far ≡ distanceOf t p h → on ≡ goneOf t (r .far) → r .went ≡ min on 1
+pub lands : {t : LineRule} {p h on : ℕ} {r : Arrival} → t .side ≤ 8 → t .made ≤ t .times → p < t .side → h < t .side → r .far ≡ cellsToGo t p h → on ≡ goneOf t (r .far) → r .went ≡ min on 1
     → (r .at ≡ reach t h p (t .made)) × (r .at < t .side) → Lands t p h r
 lands {t} {p} {h} {on} {r} few within p< h< f g w a = record {
   far = f;
@@ -83,7 +83,7 @@ lands {t} {p} {h} {on} {r} few within p< h< f g w a = record {
     turned = leaves-gone t h p within ∙ ap (ltb 0) (sym (g ∙ ap (goneOf t) f))
 
 -- of a slot with a record, and of one with none
-pub arrives-some : {t : Rule} {p h : ℕ} {x : Rec} {r : Arrival} → (x .mark ≡ 0 → ⊥) → h ≡ headOf t x → Lands t p h r → Arrives t p x r
+pub arrives-some : {t : LineRule} {p h : ℕ} {x : Rec} {r : Arrival} → (x .mark ≡ 0 → ⊥) → h ≡ headOf t x → Lands t p h r → Arrives t p x r
 unfolding landed
 arrives-some {t} {p} {h} {x} {r} m e z =
     let y : Lands t p (headOf t x) r = subst (λ (h : ℕ). Lands t p h r) e z in
@@ -102,7 +102,7 @@ arrives-some {t} {p} {h} {x} {r} m e z =
     go true = omega arith
     go false = omega arith
 
-pub arrives-none : {t : Rule} {p : ℕ} {x : Rec} → x .mark ≡ 0 → p < t .side → Arrives t p x (record { far = 0; at = p; went = 0 })
+pub arrives-none : {t : LineRule} {p : ℕ} {x : Rec} → x .mark ≡ 0 → p < t .side → Arrives t p x (record { far = 0; at = p; went = 0 })
 unfolding landed
 arrives-none {t} {p} {x} m h = record {
   few = omega arith;
@@ -123,18 +123,18 @@ no-cells (suc n) e zero h = e
 no-cells (suc n) e (suc j) h = no-cells n e j (omega arith)
 
 -- the records of the first k slots were put down
-pub record Settling (t : Rule) (U : ℕ → Cell) (k : ℕ) (counts counts′ : List ℕ) (line : List Cell) : Type 0 where
+pub record Settling (t : LineRule) (U : ℕ → Cell) (k : ℕ) (counts counts′ : List ℕ) (line : List Cell) : Type 0 where
   pub within : k ≤ 2 * t .side
   pub long : length counts′ ≡ 8
   pub line-long : length line ≡ 8
-  pub done : Settled t U k counts counts′ line
+  pub done : PutDown t U k counts counts′ line
 
-pub settling-start : (t : Rule) (U : ℕ → Cell) {counts : List ℕ} {line : List Cell} → length counts ≡ 8 → length line ≡ 8 → ((j : ℕ) → j < 8 → getD line j empty ≡ empty) → Settling t U 0 counts counts line
+pub settling-start : (t : LineRule) (U : ℕ → Cell) {counts : List ℕ} {line : List Cell} → length counts ≡ 8 → length line ≡ 8 → ((j : ℕ) → j < 8 → getD line j empty ≡ empty) → Settling t U 0 counts counts line
 unfolding settled
 settling-start t U {counts} e f g =
     record { within = omega arith; long = e; line-long = f; done = record { made = g; count = λ d h. sym (add-zero (getD counts d 0)) } }
 
-pub settling-step : {t : Rule} {U : ℕ → Cell} {k : ℕ} {counts counts′ : List ℕ} {line : List Cell} {x : Rec} {r : Arrival} {v : ℕ} {met : Cell} → k < 2 * t .side → t .side ≤ 8 → x ≡ slotIn U k
+pub settling-step : {t : LineRule} {U : ℕ → Cell} {k : ℕ} {counts counts′ : List ℕ} {line : List Cell} {x : Rec} {r : Arrival} {v : ℕ} {met : Cell} → k < 2 * t .side → t .side ≤ 8 → x ≡ slotIn U k
     → Arrives t (k / 2) x r → v ≡ getD counts′ (r .far) 0 + r .went → met ≡ joined (getD line (r .at) empty) x → Settling t U k counts counts′ line
     → Settling t U (k + 1) counts (set counts′ (r .far) v) (set line (r .at) met)
 unfolding settled
@@ -156,12 +156,12 @@ settling-step {t} {U} {k} {counts} {counts′} {line} {x} {r} {v} {met} h few e 
     add d (inl i) = rw (eq-eqb d (r .far) i) (omega (arith, g, ap (λ (n : ℕ). getD counts′ n 0) i))
     add d (inr i) = rw (ne-eqb d (r .far) i) (sym (add-zero (getD counts′ d 0)))
 
-pub settling-few : {t : Rule} {U : ℕ → Cell} {k : ℕ} {counts counts′ : List ℕ} {line : List Cell} → t .side ≤ 8 → Settling t U k counts counts′ line → (d : ℕ) → d < 8
+pub settling-few : {t : LineRule} {U : ℕ → Cell} {k : ℕ} {counts counts′ : List ℕ} {line : List Cell} → t .side ≤ 8 → Settling t U k counts counts′ line → (d : ℕ) → d < 8
     → getD counts′ d 0 ≤ getD counts d 0 + 16
 settling-few {t} {U} {k} few z d h =
     omega (arith, z .done .count d h, z .within, few, sum-few (λ i. wentOf t d (i / 2) (slotIn U i)) 1 (λ i. went-most t d (i / 2) (slotIn U i)) k)
 
-pub settling-end : {t : Rule} {U : ℕ → Cell} {k : ℕ} {counts counts′ : List ℕ} {line : List Cell} → 2 * t .side ≤ k → Settling t U k counts counts′ line → Settled t U (2 * t .side) counts counts′ line
+pub settling-end : {t : LineRule} {U : ℕ → Cell} {k : ℕ} {counts counts′ : List ℕ} {line : List Cell} → 2 * t .side ≤ k → Settling t U k counts counts′ line → PutDown t U (2 * t .side) counts counts′ line
 settling-end {t} {U} {k} {counts} {counts′} {line} h z =
     let e : k ≡ 2 * t .side = omega (arith, z .within) in
     rw e at (z .done)
@@ -187,14 +187,14 @@ sum-pairs zero f = refl
 sum-pairs (suc n) f = rw (twice-more n) (omega (arith, sum-pairs n f))
 
 -- slot by slot is cell by cell
-settled-laid : (t : Rule) (U : ℕ → Cell) (j n : ℕ) → settled t U j (n * 2) ≡ laid t U j n
+settled-laid : (t : LineRule) (U : ℕ → Cell) (j n : ℕ) → settled t U j (n * 2) ≡ laid t U j n
 unfolding settled laid
 settled-laid t U j zero = refl
 settled-laid t U j (suc n) =
     rw (twice-more n, front-of n .0, front-of n .1, spare-of n .0, spare-of n .1)
     (ap (λ (c : Cell). landed t j n (U n .spare) (landed t j n (U n .front) c)) (settled-laid t U j n))
 
-counted : (t : Rule) (U : ℕ → Cell) (d : ℕ) → sum (t .side * 2) (λ k. wentOf t d (k / 2) (slotIn U k)) ≡ sum (t .side) (λ q. wentFrom t d q (U q))
+counted : (t : LineRule) (U : ℕ → Cell) (d : ℕ) → sum (t .side * 2) (λ k. wentOf t d (k / 2) (slotIn U k)) ≡ sum (t .side) (λ q. wentFrom t d q (U q))
 counted t U d =
     sum-pairs (t .side) (λ k. wentOf t d (k / 2) (slotIn U k))
     ∙ sum-cong (t .side) (λ q u. rw (front-of q .0, front-of q .1, spare-of q .0, spare-of q .1) refl)
@@ -204,8 +204,8 @@ abbrev both : (ℕ → Rec) → (ℕ → Rec) → ℕ → Cell
 both S S₂ i = record { front = S i; spare = S₂ i }
 
 -- a line that something leaves
-pub ran-moved : {t : Rule} {start : ℕ} {S S₂ S′ S₂′ : ℕ → Rec} (fronts spares : List Rec) {line : List Cell} {a b : List ℕ} {counts : Lent} → t .side ≤ 8
-    → isStill t (λ q. both S S₂ (start + q * t .stride)) ≡ false → Taken t start S fronts → Taken t start S₂ spares → Settled t (cellsOf fronts spares) (2 * t .side) a b line
+pub ran-moved : {t : LineRule} {start : ℕ} {S S₂ S′ S₂′ : ℕ → Rec} (fronts spares : List Rec) {line : List Cell} {a b : List ℕ} {counts : Lent} → t .side ≤ 8
+    → isStill t (λ q. both S S₂ (start + q * t .stride)) ≡ false → Taken t start S fronts → Taken t start S₂ spares → PutDown t (cellsOf fronts spares) (2 * t .side) a b line
     → Laid t start (t .side) (λ p. slotOf false (getD line p empty)) S S′ → Laid t start (t .side) (λ p. slotOf true (getD line p empty)) S₂ S₂′
     → a ≡ old counts → b ≡ new counts → RanLine t start counts (both S S₂) (both S′ S₂′)
 ran-moved {t} {start} {S} {S₂} fronts spares {line} {a} {b} {counts} few still f g m l l₂ e e′ =
@@ -220,7 +220,7 @@ ran-moved {t} {start} {S} {S₂} fronts spares {line} {a} {b} {counts} few still
     }
 
 -- a line that nothing leaves
-pub stays-all : (t : Rule) (S : ℕ → Rec) (n : ℕ) → noneLeaves t S n ≡ true → (p : ℕ) → p < n → leaves t p (S p) ≡ false
+pub stays-all : (t : LineRule) (S : ℕ → Rec) (n : ℕ) → noneLeaves t S n ≡ true → (p : ℕ) → p < n → leaves t p (S p) ≡ false
 unfolding noneLeaves
 stays-all t S zero e p h = absurd (omega arith)
 stays-all t S (suc n) e p h =
@@ -229,7 +229,7 @@ stays-all t S (suc n) e p h =
     (λ i. stays-all t S n (both-left (noneLeaves t S n) _ e) p (omega (arith, i)))
     (same? p n)
 
-pub ran-still : {t : Rule} {start : ℕ} {T : ℕ → Cell} {counts : Lent} → isStill t (λ q. T (start + q * t .stride)) ≡ true → new counts ≡ old counts → RanLine t start counts T T
+pub ran-still : {t : LineRule} {start : ℕ} {T : ℕ → Cell} {counts : Lent} → isStill t (λ q. T (start + q * t .stride)) ≡ true → new counts ≡ old counts → RanLine t start counts T T
 unfolding wentOf
 ran-still {t} {start} {T} {counts} still e = record {
   made = λ p u. sym (rw still);
@@ -247,6 +247,6 @@ ran-still {t} {start} {T} {counts} still e = record {
     none d p h = rw (stays p h .0, stays p h .1)
 
 -- whether a line is still, by the marks and aims of its slots
-pub still-told : (t : Rule) (start : ℕ) (w m a w₂ m₂ a₂ : List ℕ)
+pub still-told : (t : LineRule) (start : ℕ) (w m a w₂ m₂ a₂ : List ℕ)
     → noneLeaves t (slotsAt t start m a) (t .side) && noneLeaves t (slotsAt t start m₂ a₂) (t .side) ≡ isStill t (λ q. cellAt w m a w₂ m₂ a₂ (start + q * t .stride))
 still-told t start w m a w₂ m₂ a₂ = ap₂ _&&_ (leaves-same t _ _ (t .side) (λ p h. (refl, refl))) (leaves-same t _ _ (t .side) (λ p h. (refl, refl)))

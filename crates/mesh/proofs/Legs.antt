@@ -13,9 +13,9 @@ use Rattle.array.specs.declared.moves.Way.the-variants.{Right, Left, Up, Down}
 use Rattle.array.specs.Cells.{isSide, groups, cells, group, place}
 use Rattle.array.proofs.Board.{Side, side-known, cell-of, place-in, group-in}
 use Rattle.slots.specs.declared.Cell.{Cell}
-use Rattle.mesh.specs.declared.lines.Rule.{Rule}
+use Rattle.mesh.specs.declared.lines.LineRule.{LineRule}
 use Rattle.mesh.specs.declared.Leg.{Leg}
-use Rattle.mesh.specs.Mesh.{strideOf, unitOf, ruleOf, ranOn, RanLanes}
+use Rattle.mesh.specs.Mesh.{strideOf, unitOf, lineRuleOf, ranOn, RanLanes}
 use Rattle.mesh.specs.Inside.{shareOf, Ruled, Strided}
 use Rattle.mesh.proofs.Spots.{ran-part}
 use Rattle.mesh.proofs.Groups.{part-fits}
@@ -51,7 +51,7 @@ strided s Left = inl refl
 strided s Up = inr refl
 strided s Down = inr refl
 
-pub ruled : (l : Leg) {t : Rule} {share : ℕ} → isSide (l .side) ≡ true → t ≡ ruleOf l → share ≡ shareOf (t .side * t .unit) → Ruled t share × Strided t
+pub ruled : (l : Leg) {t : LineRule} {share : ℕ} → isSide (l .side) ≡ true → t ≡ lineRuleOf l → share ≡ shareOf (t .side * t .unit) → Ruled t share × Strided t
 ruled l {t} {share} side e f =
     let k = side-known (l .side) side in
     rw e (
@@ -60,14 +60,14 @@ ruled l {t} {share} side e f =
         unit = unit-pos k (l .low) (l .way);
         few = period-few k (l .low) (l .way) .1;
         stride = stride-pos k (l .way);
-        shared = f ∙ ap (λ (r : Rule). shareOf (r .side * r .unit)) e;
+        shared = f ∙ ap (λ (r : LineRule). shareOf (r .side * r .unit)) e;
         within = omega arith;
       },
       strided (l .side) (l .way),
     )
 
 -- a run looks at the cells of the board only
-pub ran-same : (l : Leg) → 0 < l .side → (T U : ℕ → Cell) → ((i : ℕ) → i < cells (l .side) → T i ≡ U i) → (i : ℕ) → i < cells (l .side) → ranOn (ruleOf l) T i ≡ ranOn (ruleOf l) U i
+pub ran-same : (l : Leg) → 0 < l .side → (T U : ℕ → Cell) → ((i : ℕ) → i < cells (l .side) → T i ≡ U i) → (i : ℕ) → i < cells (l .side) → ranOn (lineRuleOf l) T i ≡ ranOn (lineRuleOf l) U i
 ran-same l pos T U e i h =
     let N = groups (l .side) in
     let g = group (l .side) i in
@@ -76,10 +76,10 @@ ran-same l pos T U e i h =
     let p< : p < N = place-in pos i in
     let fits : g * N + N ≤ N * N = part-fits N g (g * N) (group-in pos i h) refl in
     let is : g * N + p ≡ i = cell-of (l .side) i in
-    ap (ranOn (ruleOf l) T) (sym is)
-    ∙ sym (ran-part (ruleOf l) pos z g (λ k. T (g * N + k)) T (λ k u. refl) p p<)
-    ∙ ran-part (ruleOf l) pos z g (λ k. T (g * N + k)) U (λ k u. e (g * N + k) (omega (arith, fits))) p p<
-    ∙ ap (ranOn (ruleOf l) U) is
+    ap (ranOn (lineRuleOf l) T) (sym is)
+    ∙ sym (ran-part (lineRuleOf l) pos z g (λ k. T (g * N + k)) T (λ k u. refl) p p<)
+    ∙ ran-part (lineRuleOf l) pos z g (λ k. T (g * N + k)) U (λ k u. e (g * N + k) (omega (arith, fits))) p p<
+    ∙ ap (ranOn (lineRuleOf l) U) is
 
 -- counts of nothing
 pub no-counts : (n d : ℕ) → _≡_ {A = ℕ} (getD (replicate n 0) d 0) 0
@@ -87,5 +87,5 @@ no-counts zero d = refl
 no-counts (suc n) zero = refl
 no-counts (suc n) (suc d) = no-counts n d
 
-pub ran-none : {lanes : Bool} {t : Rule} {T : ℕ → Cell} → lanes ≡ false → RanLanes lanes t (replicate 8 0) T T
+pub ran-none : {lanes : Bool} {t : LineRule} {T : ℕ → Cell} → lanes ≡ false → RanLanes lanes t (replicate 8 0) T T
 ran-none e = record { made = λ h. absurd (never h e); went = λ h. absurd (never h e); kept = λ h i. refl; none = λ h d u. no-counts 8 d }

@@ -13,7 +13,7 @@ use Rattle.array.specs.Cells.{groups}
 use Rattle.slots.specs.declared.Cell.{Cell}
 use Rattle.slots.specs.Cells.{cellAt, Sized}
 use Rattle.slots.proofs.Stored.{cell-ext}
-use Rattle.mesh.specs.declared.lines.Rule.{Rule}
+use Rattle.mesh.specs.declared.lines.LineRule.{LineRule}
 use Rattle.mesh.specs.Lines.{wentFrom}
 use Rattle.mesh.specs.Mesh.{spotOf, ranOn}
 use Rattle.mesh.specs.Inside.{Strided, RanGroup, RanPart}
@@ -81,7 +81,7 @@ part-sized {w} {m} {a} {w₂} {m₂} {a₂} base k z f = record {
 }
 
 module _
-    (t : Rule)
+    (t : LineRule)
     (pos : 0 < t .side)
     (strided : Strided t)
     {w m a w₂ m₂ a₂ : List ℕ}

@@ -8,13 +8,13 @@ use borrow.Author.Tests.{eq-eqb, ne-eqb}
 use lib.Dec.{eqb, ltb}
 use Rattle.array.proofs.Board.{Side, side-known}
 use Rattle.slots.specs.declared.Rec.{Rec}
-use Rattle.mesh.specs.declared.lines.Rule.{Rule}
-use Rattle.mesh.specs.Lines.{digitOf, headOf, reach, leaves, distanceOf}
+use Rattle.mesh.specs.declared.lines.LineRule.{LineRule}
+use Rattle.mesh.specs.Lines.{digitOf, headOf, reach, leaves, cellsToGo}
 use Rattle.mesh.specs.Inside.{shareOf, goneOf, Ruled}
 use Rattle.mesh.proofs.Fractions.{digit-told, share-fits}
 use Rattle.mesh.proofs.Walking.{leaves-gone, gone-far, ends-in}
 
-module _ {t : Rule} {share : ℕ} (z : Ruled t share) where
+module _ {t : LineRule} {share : ℕ} (z : Ruled t share) where
   pub known : Side (t .side)
   known = side-known (t .side) (z .side)
 
@@ -41,22 +41,22 @@ module _ {t : Rule} {share : ℕ} (z : Ruled t share) where
   end-in p x h = ends-in t (headOf t x) p (z .within) (t .side) h (digit-in (x .aim))
 
   -- a record leaves that goes at least one cell
-  pub leaves-marked : (p : ℕ) (x : Rec) → (x .mark ≡ 0 → ⊥) → leaves t p x ≡ ltb 0 (goneOf t (distanceOf t p (headOf t x)))
+  pub leaves-marked : (p : ℕ) (x : Rec) → (x .mark ≡ 0 → ⊥) → leaves t p x ≡ ltb 0 (goneOf t (cellsToGo t p (headOf t x)))
   unfolding leaves
   leaves-marked p x m = rw (ne-eqb (x .mark) 0 m) (leaves-gone t (headOf t x) p (z .within))
 
   -- the same of numbers that the code has
-  pub goes-by : (p : ℕ) {h d on : ℕ} (word mark aim : ℕ) → (mark ≡ 0 → ⊥) → h ≡ digitOf (t .side) (t .unit) aim → d ≡ distanceOf t p h → on ≡ goneOf t d
+  pub goes-by : (p : ℕ) {h d on : ℕ} (word mark aim : ℕ) → (mark ≡ 0 → ⊥) → h ≡ digitOf (t .side) (t .unit) aim → d ≡ cellsToGo t p h → on ≡ goneOf t d
       → ltb 0 on ≡ leaves t p (record { word = word; mark = mark; aim = aim })
   goes-by p word mark aim m e f g =
-      ap (ltb 0) (g ∙ ap (goneOf t) (f ∙ ap (distanceOf t p) e)) ∙ sym (leaves-marked p (record { word = word; mark = mark; aim = aim }) m)
+      ap (ltb 0) (g ∙ ap (goneOf t) (f ∙ ap (cellsToGo t p) e)) ∙ sym (leaves-marked p (record { word = word; mark = mark; aim = aim }) m)
 
-pub leaves-none : (t : Rule) (p : ℕ) (x : Rec) → x .mark ≡ 0 → leaves t p x ≡ false
+pub leaves-none : (t : LineRule) (p : ℕ) (x : Rec) → x .mark ≡ 0 → leaves t p x ≡ false
 unfolding leaves
 leaves-none t p x m = rw (eq-eqb (x .mark) 0 m)
 
 -- no cell of a line is further from another than there are cells
-pub distance-few : (t : Rule) (p h : ℕ) → p < 8 → h < 8 → distanceOf t p h < 8
+pub distance-few : (t : LineRule) (p h : ℕ) → p < 8 → h < 8 → cellsToGo t p h < 8
 distance-few t p h i j = go (ltb p h) (t .up) (t .down)
   where
     go : (a b c : Bool) → cond a (cond b (h - p) 0) (cond c (p - h) 0) < 8

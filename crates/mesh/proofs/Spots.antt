@@ -11,39 +11,39 @@ use lib.Arith.{digits-div, digits-mod, digits-lt}
 use Rattle.laws.proofs.Deciding.{same?}
 use Rattle.array.specs.Cells.{groups}
 use Rattle.slots.specs.declared.Cell.{Cell}
-use Rattle.mesh.specs.declared.lines.Rule.{Rule}
+use Rattle.mesh.specs.declared.lines.LineRule.{LineRule}
 use Rattle.mesh.specs.Lines.{noneLeaves, landed, laid, ranLine}
 use Rattle.mesh.specs.Mesh.{spotOf, lineCell, ranOn}
 use Rattle.mesh.specs.Inside.{Strided, lineStep}
 use Rattle.mesh.proofs.Slots.{leaves-same}
 
 -- a run of a line looks at the line's cells only
-pub laid-same : (t : Rule) {U W : ℕ → Cell} → ((q : ℕ) → q < t .side → U q ≡ W q) → (p n : ℕ) → n ≤ t .side → laid t U p n ≡ laid t W p n
+pub laid-same : (t : LineRule) {U W : ℕ → Cell} → ((q : ℕ) → q < t .side → U q ≡ W q) → (p n : ℕ) → n ≤ t .side → laid t U p n ≡ laid t W p n
 unfolding laid
 laid-same t e p zero l = refl
 laid-same t e p (suc n) l = ap₂ (λ (c d : Cell). landed t p n (c .spare) (landed t p n (c .front) d)) (e n (omega arith)) (laid-same t e p n (omega arith))
 
-pub run-same : (t : Rule) {U W : ℕ → Cell} → ((q : ℕ) → q < t .side → U q ≡ W q) → (p : ℕ) → p < t .side → ranLine t U p ≡ ranLine t W p
+pub run-same : (t : LineRule) {U W : ℕ → Cell} → ((q : ℕ) → q < t .side → U q ≡ W q) → (p : ℕ) → p < t .side → ranLine t U p ≡ ranLine t W p
 run-same t {U} {W} e p h =
     let f = leaves-same t (λ q. U q .front) (λ q. W q .front) (t .side) (λ q u. (ap (λ (c : Cell). c .front .mark) (e q u), ap (λ (c : Cell). c .front .aim) (e q u))) in
     let g = leaves-same t (λ q. U q .spare) (λ q. W q .spare) (t .side) (λ q u. (ap (λ (c : Cell). c .spare .mark) (e q u), ap (λ (c : Cell). c .spare .aim) (e q u))) in
     rw (f, g, e p h, laid-same t e p (t .side) (omega arith))
 
 -- which line of its group a cell is on
-abbrev pub lineOf : Rule → ℕ → ℕ
+abbrev pub lineOf : LineRule → ℕ → ℕ
 lineOf t i = i / lineStep t % t .side
 
 -- cell p of line l
-pub record Spotted (t : Rule) (l p i : ℕ) : Type 0 where
+pub record Spotted (t : LineRule) (l p i : ℕ) : Type 0 where
   pub spot : spotOf t i ≡ p
   pub line : lineOf t i ≡ l
 
-pub record Split (t : Rule) (i : ℕ) : Type 0 where
+pub record Split (t : LineRule) (i : ℕ) : Type 0 where
   pub line< : lineOf t i < t .side
   pub spot< : spotOf t i < t .side
   pub is : lineOf t i * lineStep t + spotOf t i * t .stride ≡ i
 
-module _ (t : Rule) (pos : 0 < t .side) (z : Strided t) where
+module _ (t : LineRule) (pos : 0 < t .side) (z : Strided t) where
   abbrev s : ℕ
   s = t .side
 
@@ -113,18 +113,18 @@ module _ (t : Rule) (pos : 0 < t .side) (z : Strided t) where
       column e f = rw (e, ← mul-assoc g s s, mul-add-div-right pos (g * s) i) (mul-add-mod-self-right g s (i / s))
 
 -- cell q of the line of a cell of which the place on it is known
-pub line-cell : (t : Rule) (start p q : ℕ) → spotOf t (start + p * t .stride) ≡ p → lineCell t (start + p * t .stride) q ≡ start + q * t .stride
+pub line-cell : (t : LineRule) (start p q : ℕ) → spotOf t (start + p * t .stride) ≡ p → lineCell t (start + p * t .stride) q ≡ start + q * t .stride
 line-cell t start p q e = ap (λ (n : ℕ). start + p * t .stride - n * t .stride + q * t .stride) e ∙ omega arith
 
 -- a cell of line l of a group
-pub ran-spotted : (t : Rule) (start p : ℕ) (T : ℕ → Cell) → spotOf t (start + p * t .stride) ≡ p → p < t .side
+pub ran-spotted : (t : LineRule) (start p : ℕ) (T : ℕ → Cell) → spotOf t (start + p * t .stride) ≡ p → p < t .side
     → ranOn t T (start + p * t .stride) ≡ ranLine t (λ q. T (start + q * t .stride)) p
 unfolding ranOn
 ran-spotted t start p T e h =
     run-same t (λ q u. ap T (line-cell t start p q e)) (spotOf t (start + p * t .stride)) (omega (arith, e)) ∙ ap (ranLine t (λ q. T (start + q * t .stride))) e
 
 -- the cells of group g, as a table by itself
-pub ran-part : (t : Rule) → 0 < t .side → Strided t → (g : ℕ) (T U : ℕ → Cell) → ((i : ℕ) → i < groups (t .side) → T i ≡ U (g * groups (t .side) + i)) → (i : ℕ) → i < groups (t .side)
+pub ran-part : (t : LineRule) → 0 < t .side → Strided t → (g : ℕ) (T U : ℕ → Cell) → ((i : ℕ) → i < groups (t .side) → T i ≡ U (g * groups (t .side) + i)) → (i : ℕ) → i < groups (t .side)
     → ranOn t T i ≡ ranOn t U (g * groups (t .side) + i)
 unfolding ranOn
 ran-part t pos z g T U e i h =

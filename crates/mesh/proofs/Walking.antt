@@ -7,8 +7,8 @@ use native.Mathlib.Omega.{arith}
 use borrow.Author.Tests.{lt-ltb, le-ltb, ltb-true, eq-eqb, ne-eqb}
 use lib.Dec.{ltb, eqb}
 use Rattle.laws.proofs.Deciding.{apart}
-use Rattle.mesh.specs.declared.lines.Rule.{Rule}
-use Rattle.mesh.specs.Lines.{waitOf, stepOf, reach, distanceOf, goesIn}
+use Rattle.mesh.specs.declared.lines.LineRule.{LineRule}
+use Rattle.mesh.specs.Lines.{waitOf, stepOf, reach, cellsToGo, goesIn}
 use Rattle.mesh.specs.Inside.{goneOf}
 
 -- one move of a record in cell x that heads for h and waits w off its place
@@ -62,16 +62,16 @@ rest-stays true n k d h l = le-ltb (n - 1 - k) d (omega arith)
 rest-stays false n k d h l = le-ltb k d (omega arith)
 
 -- what goes in one of the moves that are made is gone then
-pub gone-some : (t : Rule) (k d : ℕ) → k < t .made → t .made ≤ t .times → goesIn (t .late) (t .times) k d ≡ true → 0 < goneOf t d
+pub gone-some : (t : LineRule) (k d : ℕ) → k < t .made → t .made ≤ t .times → goesIn (t .late) (t .times) k d ≡ true → 0 < goneOf t d
 gone-some t k d h within = go (t .late)
   where
     go : (b : Bool) → goesIn b (t .times) k d ≡ true → 0 < gone b (t .times) (t .made) d
     go true e = omega (arith, ltb-true (t .times - 1 - k) d e)
     go false e = omega (arith, ltb-true k d e)
 
-module _ (t : Rule) (h p : ℕ) where
+module _ (t : LineRule) (h p : ℕ) where
   abbrev far : ℕ
-  far = distanceOf t p h
+  far = cellsToGo t p h
 
   abbrev made : ℕ → ℕ
   made k = gone (t .late) (t .times) k far
@@ -139,7 +139,7 @@ module _ (t : Rule) (h p : ℕ) where
   reach-down l (suc k) u = ap (λ (x : ℕ). step (t .up) (t .down) (w k) h x) (reach-down l k (omega arith)) ∙ downward l k (omega arith)
 
   -- in which moves it goes
-  pub goes-in : (k : ℕ) → k < t .times → eqb (reach t h p (suc k)) (reach t h p k) ≡ not (goesIn (t .late) (t .times) k (distanceOf t p h))
+  pub goes-in : (k : ℕ) → k < t .times → eqb (reach t h p (suc k)) (reach t h p k) ≡ not (goesIn (t .late) (t .times) k (cellsToGo t p h))
   goes-in k u =
       ⊎-elim
       (λ i. ne-eqb (reach t h p (suc k)) (reach t h p k) (moved i) ∙ sym (ap not (on-goes (t .late) (t .times) k far u i)))
@@ -170,14 +170,14 @@ module _ (t : Rule) (h p : ℕ) where
           (apart p h)
 
   module _ (within : t .made ≤ t .times) where
-    pub gone-far : goneOf t (distanceOf t p h) ≤ distanceOf t p h
+    pub gone-far : goneOf t (cellsToGo t p h) ≤ cellsToGo t p h
     gone-far = gone-most (t .late) (t .times) (t .made) far within
 
     -- where a record ends, and whether it leaves
-    pub ends-up : p < h → reach t h p (t .made) ≡ p + goneOf t (distanceOf t p h)
+    pub ends-up : p < h → reach t h p (t .made) ≡ p + goneOf t (cellsToGo t p h)
     ends-up l = reach-up l (t .made) within
 
-    pub ends-down : h ≤ p → reach t h p (t .made) ≡ p - goneOf t (distanceOf t p h)
+    pub ends-down : h ≤ p → reach t h p (t .made) ≡ p - goneOf t (cellsToGo t p h)
     ends-down l = reach-down l (t .made) within
 
     far-few : h ≤ p → far ≤ p
@@ -187,7 +187,7 @@ module _ (t : Rule) (h p : ℕ) where
         go true = omega arith
         go false = omega arith
 
-    pub leaves-gone : not (eqb (reach t h p (t .made)) p) ≡ ltb 0 (goneOf t (distanceOf t p h))
+    pub leaves-gone : not (eqb (reach t h p (t .made)) p) ≡ ltb 0 (goneOf t (cellsToGo t p h))
     leaves-gone =
         ⊎-elim
         (λ i. rw (lt-ltb 0 (goneOf t far) i, ne-eqb (reach t h p (t .made)) p (moved i)))
@@ -220,8 +220,8 @@ module _ (t : Rule) (h p : ℕ) where
             go false = omega arith
 
 -- the same of numbers that the code has
-module _ (t : Rule) (h p : ℕ) {d on : ℕ} (within : t .made ≤ t .times) (e : d ≡ distanceOf t p h) (f : on ≡ goneOf t d) where
-  pub ending-few : on ≤ distanceOf t p h
+module _ (t : LineRule) (h p : ℕ) {d on : ℕ} (within : t .made ≤ t .times) (e : d ≡ cellsToGo t p h) (f : on ≡ goneOf t d) where
+  pub ending-few : on ≤ cellsToGo t p h
   ending-few = omega (arith, f ∙ ap (goneOf t) e, gone-far t h p within)
 
   pub ending-up : p < t .side → h < t .side → p < h → (p + on ≡ reach t h p (t .made)) × (p + on < t .side)

@@ -12,7 +12,7 @@ use Rattle.laws.specs.Lent.{Lent}
 use Rattle.light.specs.Lanes.{haveBoard}
 use Rattle.slots.specs.declared.Cell.{Cell}
 use Rattle.slots.specs.Lanes.{FromTo}
-use Rattle.mesh.specs.declared.lines.Rule.{Rule}
+use Rattle.mesh.specs.declared.lines.LineRule.{LineRule}
 use Rattle.mesh.specs.declared.Leg.{Leg}
 use Rattle.mesh.specs.Lines.{digitOf, ranLine, goesAt, wentFrom}
 
@@ -41,8 +41,8 @@ goesDown Up = true
 goesDown Down = false
 
 -- the rule of a leg
-abbrev pub ruleOf : Leg → Rule
-ruleOf l = record {
+abbrev pub lineRuleOf : Leg → LineRule
+lineRuleOf l = record {
   side = l .side;
   stride = strideOf (l .side) (l .way);
   unit = unitOf (l .side) (l .low) (strideOf (l .side) (l .way));
@@ -54,30 +54,30 @@ ruleOf l = record {
 }
 
 -- which cell of its line cell i is, and cell q of the same line
-abbrev pub spotOf : Rule → ℕ → ℕ
+abbrev pub spotOf : LineRule → ℕ → ℕ
 spotOf t i = digitOf (t .side) (t .stride) i
 
-abbrev pub lineCell : Rule → ℕ → ℕ → ℕ
+abbrev pub lineCell : LineRule → ℕ → ℕ → ℕ
 lineCell t i q = i - spotOf t i * t .stride + q * t .stride
 
 -- cell i after the moves
-unfoldable pub ranOn : Rule → (ℕ → Cell) → ℕ → Cell
+unfoldable pub ranOn : LineRule → (ℕ → Cell) → ℕ → Cell
 ranOn t T i = ranLine t (λ q. T (lineCell t i q)) (spotOf t i)
 
 -- how many records go in move j
-abbrev pub goneIn : Rule → ℕ → (ℕ → Cell) → ℕ
+abbrev pub goneIn : LineRule → ℕ → (ℕ → Cell) → ℕ
 goneIn t j T = sum (cells (t .side)) (λ i. goesAt t j (spotOf t i) (T i .front) + goesAt t j (spotOf t i) (T i .spare))
 
 -- how many records are in another cell that had d cells to go
-abbrev pub wentIn : Rule → ℕ → (ℕ → Cell) → ℕ
+abbrev pub wentIn : LineRule → ℕ → (ℕ → Cell) → ℕ
 wentIn t d T = sum (cells (t .side)) (λ i. wentFrom t d (spotOf t i) (T i))
 
 -- the lanes of a board after a run, and how many records went that had so far to go; on any others nothing was done
-pub record RanLanes (lanes : Bool) (t : Rule) (r : List ℕ) (T T′ : ℕ → Cell) : Type 0 where
+pub record RanLanes (lanes : Bool) (t : LineRule) (r : List ℕ) (T T′ : ℕ → Cell) : Type 0 where
   pub made : lanes ≡ true → (i : ℕ) → i < cells (t .side) → T′ i ≡ ranOn t T i
   pub went : lanes ≡ true → (d : ℕ) → d < 8 → getD r d 0 ≡ wentIn t d T
   pub kept : lanes ≡ false → (i : ℕ) → T′ i ≡ T i
   pub none : lanes ≡ false → (d : ℕ) → d < 8 → getD r d 0 ≡ 0
 
 abbrev pub RanAll : Leg → Lent → Lent → Lent → Lent → Lent → Lent → List ℕ → Type 0
-RanAll l w m a w₂ m₂ a₂ r = FromTo (RanLanes (haveBoard (l .side) w m a w₂ m₂ a₂) (ruleOf l) r) w m a w₂ m₂ a₂
+RanAll l w m a w₂ m₂ a₂ r = FromTo (RanLanes (haveBoard (l .side) w m a w₂ m₂ a₂) (lineRuleOf l) r) w m a w₂ m₂ a₂

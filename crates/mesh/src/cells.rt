@@ -1,5 +1,5 @@
 // The slots of a line, the front ones or the spare ones: looked at, taken out of their three lanes and laid back.
-use crate::lines::Rule;
+use crate::lines::LineRule;
 use crate::lines::goes;
 use slots::Cell;
 use slots::Rec;
@@ -13,7 +13,7 @@ ghost use Rattle.mesh.specs.Inside.{slotOf, slotsAt, Ruled, Lies, HasSlo
 
 // Whether a record leaves its cell.
 pub(crate) fn any_goes(
-    t: Rule,
+    t: LineRule,
     share: usize,
     n: usize,
     start: usize,
@@ -36,7 +36,7 @@ pub(crate) fn any_goes(
 }
 
 pub(crate) fn take_slots(
-    t: Rule,
+    t: LineRule,
     n: usize,
     start: usize,
     words: &[u32],
@@ -70,7 +70,7 @@ pub(crate) fn slot(spare: bool, c: Cell) -> Rec
 }
 
 pub(crate) fn lay_slots(
-    t: Rule,
+    t: LineRule,
     n: usize,
     start: usize,
     spare: bool,

@@ -2,7 +2,7 @@
 mod cells;
 mod lines;
 
-use crate::lines::Rule;
+use crate::lines::LineRule;
 use crate::lines::run_line;
 use array::moves::Way;
 use laws::least;
@@ -11,7 +11,7 @@ ghost use mathlib.Core.Path.{_≡_};
 ghost use Prim.Native.Nat.{ℕ, _+_, _*_, _≤_};
 ghost use Rattle.array.specs.Cells.{groups, cells};
 ghost use Rattle.slots.specs.Lanes.{FromTo, Long};
-ghost use Rattle.mesh.specs.Mesh.{strideOf, unitOf, goesUp, goesDown, ruleOf, RanAll};
+ghost use Rattle.mesh.specs.Mesh.{strideOf, unitOf, goesUp, goesDown, lineRuleOf, RanAll};
 ghost use Rattle.mesh.specs.Inside.{shareOf, Ruled, Roomy, Strided, lineStep, movingGroups, RanGroup, RanPart};
 
 // A run one way, as far as it is made: whether a record heads for its aim mod N (low) or div N, whether it goes as late as it can, how many
@@ -69,13 +69,13 @@ fn unit(side: usize, low: bool, stride: usize) -> usize
 }
 
 // The rule that every line goes by.
-fn rule_of(leg: Leg) -> Rule
+fn rule_of(leg: Leg) -> LineRule
     requires { ⌜ (1 ≤ leg .side) × (leg .side ≤ 8) ⌝ }
-    ensures { λ r. ⌜ r ≡ ruleOf leg ⌝ }
+    ensures { λ r. ⌜ r ≡ lineRuleOf leg ⌝ }
 {
     let way = leg.way;
     let stride = stride(leg.side, way);
-    Rule {
+    LineRule {
         side: leg.side,
         stride: stride,
         unit: unit(leg.side, leg.low, stride),
@@ -88,7 +88,7 @@ fn rule_of(leg: Leg) -> Rule
 }
 
 // 2^32 over the period of the digit: an aim times it tells, below 2^32, how far along its period the aim is. So a record costs no division.
-fn share(t: Rule) -> usize
+fn share(t: LineRule) -> usize
     requires { ⌜ (1 ≤ t .side * t .unit) × (t .side * t .unit ≤ 4096) ⌝ }
     ensures { λ r. ⌜ r ≡ shareOf (t .side * t .unit) ⌝ }
 {
@@ -96,14 +96,14 @@ fn share(t: Rule) -> usize
 }
 
 // From one line of a group to the next.
-fn line_step(t: Rule) -> usize
+fn line_step(t: LineRule) -> usize
     ensures { λ r. ⌜ r ≡ lineStep t ⌝ }
 {
     if t.stride == 1 { t.side } else { 1 }
 }
 
 // How many groups have something to do: none, where no move is made.
-fn moving_groups(t: Rule) -> usize
+fn moving_groups(t: LineRule) -> usize
     requires { ⌜ t .side ≤ 8 ⌝ }
     ensures { λ r. ⌜ r ≡ movingGroups t ⌝ }
 {
@@ -115,7 +115,7 @@ fn moving_groups(t: Rule) -> usize
 
 // All lines of a group, whose own stretch of the lanes is lent.
 fn run_group(
-    t: Rule,
+    t: LineRule,
     share: usize,
     counts: &mut [usize],
     words: &mut [u32],
@@ -153,7 +153,7 @@ fn run_group(
 
 // The same in the group whose stretch of the lanes starts at base.
 fn run_part(
-    t: Rule,
+    t: LineRule,
     share: usize,
     base: usize,
     counts: &mut [usize],

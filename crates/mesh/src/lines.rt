@@ -16,12 +16,12 @@ ghost use Prim.Native.Nat.{ℕ, _-_, _*_, _<_, _≤_, min};
 ghost use lib.ListN.{length};
 ghost use Rattle.laws.specs.Lent.{old, new};
 ghost use Rattle.slots.specs.Lanes.{FromTo, Long};
-ghost use Rattle.mesh.specs.Lines.{digitOf, distanceOf, leaves, noneLeaves};
-ghost use Rattle.mesh.specs.Inside.{shareOf, goneOf, cellsOf, slotsAt, Ruled, Lies, Roomy, Lands, Arrives, Settled, RanLine};
+ghost use Rattle.mesh.specs.Lines.{digitOf, cellsToGo, leaves, noneLeaves};
+ghost use Rattle.mesh.specs.Inside.{shareOf, goneOf, cellsOf, slotsAt, Ruled, Lies, Roomy, Lands, Arrives, PutDown, RanLine};
 
 // What a line goes by: its length, the stride from one cell of it to the next, the weight of the digit of an aim that names a cell of it,
 // whether records go up the line and down it, whether they go as late as they can, how many moves the run has and how many are made.
-pub(crate) struct Rule {
+pub(crate) struct LineRule {
     pub(crate) side: usize,
     pub(crate) stride: usize,
     pub(crate) unit: usize,
@@ -39,7 +39,7 @@ fn wide(x: u16) -> usize
 }
 
 // The cell of the line that an aim names.
-fn digit(t: Rule, share: usize, aim: u16) -> usize
+fn digit(t: LineRule, share: usize, aim: u16) -> usize
     requires { ⌜ Ruled t share ⌝ }
     ensures { λ r. ⌜ (r ≡ digitOf (t .side) (t .unit) aim) × (r < t .side) ⌝ }
 {
@@ -47,8 +47,8 @@ fn digit(t: Rule, share: usize, aim: u16) -> usize
 }
 
 // How many cells a record in cell p has to go that heads for cell h.
-fn distance(t: Rule, p: usize, h: usize) -> usize
-    ensures { λ r. ⌜ r ≡ distanceOf t p h ⌝ }
+fn distance(t: LineRule, p: usize, h: usize) -> usize
+    ensures { λ r. ⌜ r ≡ cellsToGo t p h ⌝ }
 {
     if p < h {
         if t.up {
@@ -60,7 +60,7 @@ fn distance(t: Rule, p: usize, h: usize) -> usize
 }
 
 // How many of them it goes in the moves that are made: as many as these are, or going late as many as are left once it sets off.
-fn gone(t: Rule, d: usize) -> usize
+fn gone(t: LineRule, d: usize) -> usize
     ensures { λ r. ⌜ r ≡ goneOf t d ⌝ }
 {
     if t.late {
@@ -77,7 +77,7 @@ struct Arrival {
 }
 
 // The landing of a record of cell p that heads for cell h.
-fn landing(t: Rule, p: usize, h: usize) -> Arrival
+fn landing(t: LineRule, p: usize, h: usize) -> Arrival
     requires { ⌜ (p < t .side) × (h < t .side) ⌝ }
     requires { ⌜ (t .side ≤ 8) × (t .made ≤ t .times) ⌝ }
     ensures { λ r. ⌜ Lands t p h r ⌝ }
@@ -100,7 +100,7 @@ fn landing(t: Rule, p: usize, h: usize) -> Arrival
 }
 
 // The same of what slot x of cell p holds; where that is no record, it stays and nothing went.
-fn arriving(t: Rule, share: usize, p: usize, x: Rec) -> Arrival
+fn arriving(t: LineRule, share: usize, p: usize, x: Rec) -> Arrival
     requires { ⌜ Ruled t share × (p < t .side) ⌝ }
     ensures { λ r. ⌜ Arrives t p x r ⌝ }
 {
@@ -115,7 +115,7 @@ fn arriving(t: Rule, share: usize, p: usize, x: Rec) -> Arrival
 }
 
 // Whether a record of this mark and aim leaves cell p.
-pub(crate) fn goes(t: Rule, share: usize, p: usize, mark: u8, aim: u16) -> bool
+pub(crate) fn goes(t: LineRule, share: usize, p: usize, mark: u8, aim: u16) -> bool
     requires { ⌜ Ruled t share ⌝ }
     ensures { λ r. ⌜ ((word : ℕ) → r ≡ leaves t p (record { word = word; mark = mark; aim = aim })) ⌝ }
 {
@@ -128,7 +128,7 @@ pub(crate) fn goes(t: Rule, share: usize, p: usize, mark: u8, aim: u16) -> bool
 // The line after all moves of the run, of the records in its front slots and in its spare ones: each is put down where its moves take it, and
 // those that went are counted by the cells that they had to go.
 fn put_line(
-    t: Rule,
+    t: LineRule,
     share: usize,
     fronts: [Rec; 8],
     spares: [Rec; 8],
@@ -136,7 +136,7 @@ fn put_line(
 ) -> [Cell; 8]
     requires { ⌜ Ruled t share ⌝ }
     requires { ⌜ Roomy 65536 counts ⌝ }
-    ensures { λ r. ⌜ Settled t (cellsOf fronts spares) (2 * t .side) (old counts) (new counts) r ⌝ }
+    ensures { λ r. ⌜ PutDown t (cellsOf fronts spares) (2 * t .side) (old counts) (new counts) r ⌝ }
 {
     let none = empty();
     let mut line = [none; 8];
@@ -161,7 +161,7 @@ fn put_line(
 
 // Whether a record leaves a cell of the line.
 fn line_goes(
-    t: Rule,
+    t: LineRule,
     share: usize,
     n: usize,
     start: usize,
@@ -183,7 +183,7 @@ fn line_goes(
 
 // All moves of the run on the line that starts at a cell. A line that nothing leaves is left alone.
 pub(crate) fn run_line(
-    t: Rule,
+    t: LineRule,
     share: usize,
     n: usize,
     start: usize,

@@ -22,19 +22,19 @@ use Rattle.array.specs.declared.moves.Move.{Move}
 use Rattle.array.specs.declared.moves.Move.the-variants.{Swap, Electronic}
 use Rattle.array.specs.Cells.{isSide, cells, partner}
 use Rattle.array.proofs.Board.{side-known, partner-in}
-use Rattle.logs.specs.declared.Run.{Run}
-use Rattle.logs.specs.Runs.{swapsIn}
+use Rattle.runs.specs.declared.Run.{Run}
+use Rattle.runs.specs.Runs.{swapsIn}
 use Rattle.lists.specs.declared.Trip.{Trip}
 use Rattle.slots.specs.declared.Cell.{Cell}
 use Rattle.mesh.specs.declared.Leg.{Leg}
 use Rattle.mesh.specs.Lines.{goesAt, goesIn}
-use Rattle.mesh.specs.Mesh.{ruleOf, spotOf, ranOn, goneIn, wentIn, RanLanes}
+use Rattle.mesh.specs.Mesh.{lineRuleOf, spotOf, ranOn, goneIn, wentIn, RanLanes}
 use Rattle.mesh.proofs.Groups.{ran-nothing as leg-nothing, went-nothing}
 use Rattle.mesh.proofs.Legs.{stride-pos, ran-same}
 use Rattle.mesh.proofs.Counting.{gone-by-went, gone-made, gone-few, went-few}
 use Rattle.mover.specs.declared.Tally.{Tally}
 use Rattle.mover.specs.Runs.{isLate, legOf, swapped, ranBy, goneBy, madeOf, after, movedLog, Ran}
-use Rattle.mover.specs.Inside.{legIn, movers, countOf, FewWent, leaving, Made, RanRun}
+use Rattle.mover.specs.Inside.{legIn, movers, movedIn, FewWent, leaving, Made, RanRun}
 use Rattle.mover.proofs.Swapping.{leaving-few, leaving-same, leaving-swaps, swaps-same}
 
 -- counts put into the log, from a place on
@@ -86,7 +86,7 @@ adding-end {late} {times} {went} {j} {d} h z =
     z .sum-is ∙ ap (λ (n : ℕ). sum n (λ e. cond (goesIn late times j e) (getD went e 0) 0)) e
 
 -- a run by what the mesh and the light say of it
-module _ {l : Leg} {n : ℕ} {lanes : Bool} {T C T′ : ℕ → Cell} {went : List ℕ} {swaps : ℕ} (side : isSide (l .side) ≡ true) (on : lanes ≡ true) (r : RanLanes lanes (ruleOf l) went T C)
+module _ {l : Leg} {n : ℕ} {lanes : Bool} {T C T′ : ℕ → Cell} {went : List ℕ} {swaps : ℕ} (side : isSide (l .side) ≡ true) (on : lanes ≡ true) (r : RanLanes lanes (lineRuleOf l) went T C)
     (q : (i : ℕ) → i < cells (l .side) → T′ i ≡ swapped (l .side) n C i) (k : swaps ≡ cond (eqb n 0) 0 (leaving (l .side) C)) where
   pub made-so : Made l n (record { went = went; swapped = swaps }) T T′
   made-so = record {
@@ -107,21 +107,21 @@ module _ (trip : Trip) (s : ℕ) (side : isSide s ≡ true) (swaps times m : ℕ
   abbrev idle : Leg
   idle = legOf trip s swaps Right times 0
 
-  none : ruleOf idle .made ≡ 0
+  none : lineRuleOf idle .made ≡ 0
   none = omega arith
 
-  idle-ran : (i : ℕ) → ranOn (ruleOf idle) T i ≡ T i
-  idle-ran i = leg-nothing (ruleOf idle) none T i pos (stride-pos (side-known s side) Right)
+  idle-ran : (i : ℕ) → ranOn (lineRuleOf idle) T i ≡ T i
+  idle-ran i = leg-nothing (lineRuleOf idle) none T i pos (stride-pos (side-known s side) Right)
 
-  pub counts-are : (x : Move) {t : Tally} {T′ : ℕ → Cell} → Made (legIn trip s swaps x times m) (swapsIn x m) t T T′ → (j : ℕ) → j < m → countOf (isLate trip) times t j ≡ goneBy trip s swaps x times j T
+  pub counts-are : (x : Move) {t : Tally} {T′ : ℕ → Cell} → Made (legIn trip s swaps x times m) (swapsIn x m) t T T′ → (j : ℕ) → j < m → movedIn (isLate trip) times t j ≡ goneBy trip s swaps x times j T
   counts-are (Electronic w) {t} z j h =
       let l = legOf trip s swaps w times m in
-      let e : movers (isLate trip) times (t .went) j ≡ goneIn (ruleOf l) j T =
+      let e : movers (isLate trip) times (t .went) j ≡ goneIn (lineRuleOf l) j T =
       sum-cong 8 (λ d u. ap (λ (n : ℕ). cond (goesIn (isLate trip) times j d) n 0) (z .went d u)) ∙ sym (gone-by-went l j T side h within) in
       omega (arith, e, z .swaps, gone-made l times j T)
   counts-are Swap {t} z j h =
       let e : movers (isLate trip) times (t .went) j ≡ 0 =
-      sum-zero (λ d. cond (goesIn (isLate trip) times j d) (getD (t .went) d 0) 0) 8 (λ d u. few-zero (goesIn (isLate trip) times j d) (z .went d u ∙ went-nothing (ruleOf idle) none d T)) in
+      sum-zero (λ d. cond (goesIn (isLate trip) times j d) (getD (t .went) d 0) 0) 8 (λ d u. few-zero (goesIn (isLate trip) times j d) (z .went d u ∙ went-nothing (lineRuleOf idle) none d T)) in
       let f : t .swapped ≡ leaving s T = z .swaps ∙ rw (ne-eqb m 0 (λ u. omega arith)) (leaving-same s (λ i u. idle-ran i)) in
       omega (arith, e, f, leaving-swaps s side j T)
     where
@@ -133,7 +133,7 @@ module _ (trip : Trip) (s : ℕ) (side : isSide s ≡ true) (swaps times m : ℕ
   gone-most Swap j = leaving-few s side (swapped s j T)
   gone-most (Electronic w) j = omega (arith, gone-few (legOf trip s swaps w times times) j T, side-known s side .cells-few)
 
-  pub counts-few : (x : Move) {t : Tally} {T′ : ℕ → Cell} → Made (legIn trip s swaps x times m) (swapsIn x m) t T T′ → (j : ℕ) → j < m → countOf (isLate trip) times t j ≤ 65535
+  pub counts-few : (x : Move) {t : Tally} {T′ : ℕ → Cell} → Made (legIn trip s swaps x times m) (swapsIn x m) t T T′ → (j : ℕ) → j < m → movedIn (isLate trip) times t j ≤ 65535
   counts-few x {t} z j h = omega (arith, counts-are x z j h, gone-most x j)
 
   made-are : (x : Move) {t : Tally} {T′ : ℕ → Cell} → Made (legIn trip s swaps x times m) (swapsIn x m) t T T′ → (i : ℕ) → i < cells s → T′ i ≡ ranBy trip s swaps x times m T i
@@ -142,12 +142,12 @@ module _ (trip : Trip) (s : ℕ) (side : isSide s ≡ true) (swaps times m : ℕ
   made-are Swap z i h = z .made i h ∙ swaps-same s pos m (λ i u. idle-ran i) i h
 
   pub run-made : (x : Move) {t : Tally} {T′ : ℕ → Cell} {from : ℕ} {moved moved′ : List ℕ} → Made (legIn trip s swaps x times m) (swapsIn x m) t T T′
-      → moved′ ≡ sets moved from (entries (countOf (isLate trip) times t) 0 m) → RanRun trip s swaps x times m from T T′ moved moved′
+      → moved′ ≡ sets moved from (entries (movedIn (isLate trip) times t) 0 m) → RanRun trip s swaps x times m from T T′ moved moved′
   run-made x {t} {from = from} {moved} z e = record { made = made-are x z; log = e ∙ ap (sets moved from) (entries-cong m (counts-are x z)) }
 
-gone-cong : (l : Leg) (j : ℕ) {T U : ℕ → Cell} → ((i : ℕ) → i < cells (l .side) → T i ≡ U i) → goneIn (ruleOf l) j T ≡ goneIn (ruleOf l) j U
+gone-cong : (l : Leg) (j : ℕ) {T U : ℕ → Cell} → ((i : ℕ) → i < cells (l .side) → T i ≡ U i) → goneIn (lineRuleOf l) j T ≡ goneIn (lineRuleOf l) j U
 gone-cong l j e =
-    sum-cong (cells (l .side)) (λ i h. ap (λ (c : Cell). goesAt (ruleOf l) j (spotOf (ruleOf l) i) (c .front) + goesAt (ruleOf l) j (spotOf (ruleOf l) i) (c .spare)) (e i h))
+    sum-cong (cells (l .side)) (λ i h. ap (λ (c : Cell). goesAt (lineRuleOf l) j (spotOf (lineRuleOf l) i) (c .front) + goesAt (lineRuleOf l) j (spotOf (lineRuleOf l) i) (c .spare)) (e i h))
 
 -- a run looks at the cells of the board only
 module _ (trip : Trip) {s : ℕ} (pos : 0 < s) {T U : ℕ → Cell} (same : (i : ℕ) → i < cells s → T i ≡ U i) where

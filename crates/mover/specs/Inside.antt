@@ -13,13 +13,13 @@ use Rattle.array.specs.declared.moves.Way.the-variants.{Right}
 use Rattle.array.specs.declared.moves.Move.{Move}
 use Rattle.array.specs.declared.moves.Move.the-variants.{Swap, Electronic}
 use Rattle.array.specs.Cells.{cells, partner}
-use Rattle.logs.specs.Runs.{electronicIn}
+use Rattle.runs.specs.Runs.{electronicIn}
 use Rattle.lists.specs.declared.Trip.{Trip}
 use Rattle.slots.specs.declared.Cell.{Cell}
 use Rattle.slots.specs.Cells.{marksIn}
 use Rattle.mesh.specs.declared.Leg.{Leg}
 use Rattle.mesh.specs.Lines.{goesIn}
-use Rattle.mesh.specs.Mesh.{ruleOf, ranOn, wentIn}
+use Rattle.mesh.specs.Mesh.{lineRuleOf, ranOn, wentIn}
 use Rattle.mover.specs.declared.Tally.{Tally}
 use Rattle.mover.specs.Runs.{legOf, swapped, ranBy, goneBy}
 
@@ -37,8 +37,8 @@ abbrev pub movers : Bool → ℕ → List ℕ → ℕ → ℕ
 movers late times went j = sum 8 (λ d. cond (goesIn late times j d) (getD went d 0) 0)
 
 -- how many records move j took to another cell
-abbrev pub countOf : Bool → ℕ → Tally → ℕ → ℕ
-countOf late times t j = movers late times (t .went) j + t .swapped
+abbrev pub movedIn : Bool → ℕ → Tally → ℕ → ℕ
+movedIn late times t j = movers late times (t .went) j + t .swapped
 
 -- no more than there are slots
 pub record FewWent (went : List ℕ) : Type 0 where
@@ -50,9 +50,9 @@ leaving s T = sum (cells s) (λ i. cond (eqb (partner s i) i) 0 (marksIn (T i)))
 
 -- the moves of a leg and then n swaps were made, and tallied
 pub record Made (l : Leg) (n : ℕ) (t : Tally) (T T′ : ℕ → Cell) : Type 0 where
-  pub made : (i : ℕ) → i < cells (l .side) → T′ i ≡ swapped (l .side) n (ranOn (ruleOf l) T) i
-  pub went : (d : ℕ) → d < 8 → getD (t .went) d 0 ≡ wentIn (ruleOf l) d T
-  pub swaps : t .swapped ≡ cond (eqb n 0) 0 (leaving (l .side) (ranOn (ruleOf l) T))
+  pub made : (i : ℕ) → i < cells (l .side) → T′ i ≡ swapped (l .side) n (ranOn (lineRuleOf l) T) i
+  pub went : (d : ℕ) → d < 8 → getD (t .went) d 0 ≡ wentIn (lineRuleOf l) d T
+  pub swaps : t .swapped ≡ cond (eqb n 0) 0 (leaving (l .side) (ranOn (lineRuleOf l) T))
 
 -- the first m moves of a run were made, and logged from a place on
 pub record RanRun (trip : Trip) (s swaps : ℕ) (x : Move) (times m from : ℕ) (T T′ : ℕ → Cell) (moved moved′ : List ℕ) : Type 0 where

@@ -12,8 +12,8 @@ use Rattle.array.specs.declared.moves.Way.{Way}
 use Rattle.array.specs.declared.moves.Move.{Move}
 use Rattle.array.specs.declared.moves.Move.the-variants.{Swap, Electronic}
 use Rattle.array.specs.Cells.{cells, partner}
-use Rattle.logs.specs.declared.Run.{Run}
-use Rattle.logs.specs.Runs.{swapsIn}
+use Rattle.runs.specs.declared.Run.{Run}
+use Rattle.runs.specs.Runs.{swapsIn}
 use Rattle.lists.specs.declared.Trip.{Trip}
 use Rattle.lists.specs.declared.Trip.the-variants.{Concentrate, Distribute}
 use Rattle.slots.specs.declared.Cell.{Cell}
@@ -21,7 +21,7 @@ use Rattle.light.specs.Lanes.{haveBoard}
 use Rattle.slots.specs.Cells.{marksIn}
 use Rattle.slots.specs.Lanes.{cellsBefore, cellsAfter}
 use Rattle.mesh.specs.declared.Leg.{Leg}
-use Rattle.mesh.specs.Mesh.{ruleOf, ranOn, goneIn}
+use Rattle.mesh.specs.Mesh.{lineRuleOf, ranOn, goneIn}
 
 -- a record heads for its aim mod N before concentrate's first swap, and after distribute's last
 abbrev pub lowAfter : Trip → ℕ → Bool
@@ -45,12 +45,12 @@ swapped s (suc m) T i = swapped s m T (partner s i)
 -- the cells after the first m moves of a run of so many
 abbrev pub ranBy : Trip → ℕ → ℕ → Move → ℕ → ℕ → (ℕ → Cell) → ℕ → Cell
 ranBy trip s swaps Swap times m T = swapped s m T
-ranBy trip s swaps (Electronic w) times m T = ranOn (ruleOf (legOf trip s swaps w times m)) T
+ranBy trip s swaps (Electronic w) times m T = ranOn (lineRuleOf (legOf trip s swaps w times m)) T
 
 -- how many records move j of the run takes to another cell
 abbrev pub goneBy : Trip → ℕ → ℕ → Move → ℕ → ℕ → (ℕ → Cell) → ℕ
 goneBy trip s swaps Swap times j T = sum (cells s) (λ i. cond (eqb (partner s i) i) 0 (marksIn (swapped s j T i)))
-goneBy trip s swaps (Electronic w) times j T = goneIn (ruleOf (legOf trip s swaps w times times)) j T
+goneBy trip s swaps (Electronic w) times j T = goneIn (lineRuleOf (legOf trip s swaps w times times)) j T
 
 -- how many of a run's moves are made, of k that are left
 abbrev pub madeOf : Run → ℕ → ℕ
@@ -75,6 +75,6 @@ pub record Ran (lanes : Bool) (trip : Trip) (s : ℕ) (rs : List Run) (n : ℕ) 
   pub kept : lanes ≡ false → (i : ℕ) → T′ i ≡ T i
   pub log : moved′ ≡ cond lanes (sets moved 0 (movedLog trip s rs 0 n T)) moved
 
-abbrev pub RanLanes : Trip → ℕ → List Run → ℕ → Lent → Lent → Lent → Lent → Lent → Lent → Lent → Type 0
-RanLanes trip s rs n w m a w₂ m₂ a₂ moved =
+abbrev pub RanList : Trip → ℕ → List Run → ℕ → Lent → Lent → Lent → Lent → Lent → Lent → Lent → Type 0
+RanList trip s rs n w m a w₂ m₂ a₂ moved =
     Ran (haveBoard s w m a w₂ m₂ a₂) trip s rs n (cellsBefore w m a w₂ m₂ a₂) (cellsAfter w m a w₂ m₂ a₂) (old moved) (new moved)

@@ -6,11 +6,11 @@ use laws::over;
 use light::are_lanes;
 use light::swap_lanes;
 use lists::Trip;
-use logs::Run;
-use logs::electronic_in;
-use logs::swaps_in;
 use mesh::Leg;
 use mesh::run_all;
+use runs::Run;
+use runs::electronic_in;
+use runs::swaps_in;
 ghost use mathlib.Core.Path.{_≡_};
 ghost use mathlib.Core.Bool.{true, cond};
 ghost use Prim.Native.Nat.{ℕ, _+_, _<_, _≤_};
@@ -21,8 +21,8 @@ ghost use Rattle.laws.specs.Tables.{entries};
 ghost use Rattle.array.specs.Cells.{isSide, cells};
 ghost use Rattle.slots.specs.Lanes.{FromTo, Long};
 ghost use Rattle.mesh.specs.Lines.{goesIn};
-ghost use Rattle.mover.specs.Runs.{lowAfter, isLate, RanLanes};
-ghost use Rattle.mover.specs.Inside.{wayOf, legIn, movers as moversOf, countOf, FewWent, Made};
+ghost use Rattle.mover.specs.Runs.{lowAfter, isLate, RanList};
+ghost use Rattle.mover.specs.Inside.{wayOf, legIn, movers as moversOf, movedIn, FewWent, Made};
 
 // Whether a record heads for its aim mod N after so many swaps.
 fn low_after(trip: Trip, swaps: usize) -> bool
@@ -118,8 +118,8 @@ struct Tally {
 // Writes the counts of the moves of a run that are made, from a place of the log on.
 fn log_run(late: bool, times: usize, made: usize, from: usize, tally: Tally, moved: &mut [u16])
     requires { ⌜ FewWent (tally .went) × (from + made < 18446744073709551616) ⌝ }
-    requires { ⌜ ((j : ℕ) → j < made → countOf late times tally j ≤ 65535) ⌝ }
-    ensures { λ _. ⌜ new moved ≡ sets (old moved) from (entries (countOf late times tally) 0 made) ⌝ }
+    requires { ⌜ ((j : ℕ) → j < made → movedIn late times tally j ≤ 65535) ⌝ }
+    ensures { λ _. ⌜ new moved ≡ sets (old moved) from (entries (movedIn late times tally) 0 made) ⌝ }
 {
     let went = tally.went;
     let mut j: usize = 0;
@@ -183,7 +183,7 @@ pub fn run(
     spare_aims: &mut [u16],
     moved: &mut [u16],
 )
-    ensures { λ _. ⌜ RanLanes trip side runs cut words marks aims «spare_words» «spare_marks» «spare_aims» moved ⌝ }
+    ensures { λ _. ⌜ RanList trip side runs cut words marks aims «spare_words» «spare_marks» «spare_aims» moved ⌝ }
 {
     if !are_lanes(
         side,

@@ -7,13 +7,14 @@ use native.Mathlib.Omega.{arith}
 use lib.ListN.{length, getD}
 use Rattle.array.specs.declared.moves.Way.{Way}
 use Rattle.array.specs.declared.moves.Way.the-variants.{Right, Left, Up, Down}
-use Rattle.light.specs.Lane.{isBoard, swappedLane}
+use Rattle.array.specs.Cells.{isBoard}
+use Rattle.light.specs.Lane.{swappedLane}
 use Rattle.lanes.specs.declared.Joining.the-variants.{Add, Copy}
 use Rattle.sums.specs.declared.Combining.the-variants.{Take, Plus, Minus}
 use Rattle.lanes.specs.Machine.{State, load}
 use Rattle.sums.specs.Sums.{plus, minus, combinedWords}
 use Rattle.lanes.specs.Runs.{ranWords}
-use Rattle.lanes.specs.Inside.{Board, Lane, Moves, swapped}
+use Rattle.lanes.specs.Inside.{FitsBoard, Lane, Moves, swapped}
 use Rattle.lanes.proofs.Held.{board-known, lane-load, lane-words, ran-lane, swapped-lane, combined-lane}
 use Rattle.prefix.specs.Programs.{prefixed}
 use Rattle.prefix.specs.Results.{prefixSumLane}
@@ -74,7 +75,7 @@ prefix-moves s {r} ec ea ey ez x = record {
   so = λ R h. x .so R _ _ _ _ h (some-lane ec (h .board)) (some-lane ea (h .board)) (some-lane ey (h .board)) (some-lane ez (h .board));
 }
   where
-    some-lane : {l : List ℕ} → length l ≡ length r → Board s (length r) → Lane s l (load s l)
+    some-lane : {l : List ℕ} → length l ≡ length r → FitsBoard s (length r) → Lane s l (load s l)
     some-lane e b = lane-load (record { least = b .least; most = b .most; whole = e ∙ b .whole })
 
 pub prefix-done : (s : ℕ) (l l′ : List ℕ) → isBoard s (length l) ≡ true → ((i : ℕ) → getD l i 0 < 2 ^ 32) → Moves s (prefixed s) l l′ → l′ ≡ prefixSumLane s l

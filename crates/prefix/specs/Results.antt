@@ -5,8 +5,7 @@ use mathlib.Core.List.{List}
 use lib.ListN.{length}
 use Rattle.laws.specs.Sums.{sumOf}
 use Rattle.laws.specs.Tables.{entries}
-use Rattle.array.specs.Cells.{cells}
-use Rattle.light.specs.Lane.{isBoard}
+use Rattle.array.specs.Cells.{cells, isBoard}
 
 -- the word at i is the sum of words 0 to i, modulo 2 ^ 32
 abbrev pub prefixSumWords : ℕ → List ℕ → List ℕ

@@ -1,8 +1,8 @@
 // Prefix sum, on a lane of words, in the paper's nine steps.
+use array::cells::is_board;
 use array::moves::Way;
 use lanes::Joining;
 use lanes::run;
-use light::is_board;
 use light::swap_words;
 use sums::Combining;
 use sums::balance;
@@ -12,7 +12,7 @@ ghost use mathlib.Core.Bool.{cond};
 ghost use Prim.Native.Nat.{_≤_};
 ghost use lib.ListN.{length};
 ghost use lib.Dec.{ltb};
-ghost use Rattle.lanes.specs.Inside.{Board, Moves};
+ghost use Rattle.lanes.specs.Inside.{FitsBoard, Moves};
 ghost use Rattle.prefix.specs.Programs.{prefixed};
 ghost use Rattle.prefix.specs.Results.{prefixSumLane};
 ghost use Rattle.prefix.specs.Inside.{RowsAndColumns, GroupSums, Modified, Finished, PrefixLanes};
@@ -86,7 +86,7 @@ fn prefix_lanes(
 
 // On a board of side 2 at most: to clear lanes that are much too long takes longer than the moves.
 fn sum_least(words: &mut [u32], side: usize)
-    requires { ⌜ Board side (length (now words)) ⌝ }
+    requires { ⌜ FitsBoard side (length (now words)) ⌝ }
     requires { ⌜ length (now words) ≤ 16 ⌝ }
     ensures { λ _. ⌜ Moves side (prefixed side) (now (words .entry)) (now (words .exit)) ⌝ }
 {
@@ -107,7 +107,7 @@ fn sum_least(words: &mut [u32], side: usize)
 
 // On a board of side 4 at most.
 fn sum_few(words: &mut [u32], side: usize)
-    requires { ⌜ Board side (length (now words)) ⌝ }
+    requires { ⌜ FitsBoard side (length (now words)) ⌝ }
     requires { ⌜ length (now words) ≤ 256 ⌝ }
     ensures { λ _. ⌜ Moves side (prefixed side) (now (words .entry)) (now (words .exit)) ⌝ }
 {
@@ -127,7 +127,7 @@ fn sum_few(words: &mut [u32], side: usize)
 }
 
 fn sum_many(words: &mut [u32], side: usize)
-    requires { ⌜ Board side (length (now words)) ⌝ }
+    requires { ⌜ FitsBoard side (length (now words)) ⌝ }
     ensures { λ _. ⌜ Moves side (prefixed side) (now (words .entry)) (now (words .exit)) ⌝ }
 {
     let mut c = [0u32; 4096];
@@ -146,7 +146,7 @@ fn sum_many(words: &mut [u32], side: usize)
 }
 
 fn sum_up(words: &mut [u32], side: usize)
-    requires { ⌜ Board side (length (now words)) ⌝ }
+    requires { ⌜ FitsBoard side (length (now words)) ⌝ }
     ensures { λ _. ⌜ Moves side (prefixed side) (now (words .entry)) (now (words .exit)) ⌝ }
 {
     if words.len() <= 256 {

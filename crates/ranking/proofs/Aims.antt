@@ -11,9 +11,8 @@ use native.Mathlib.Nat.{mod-eq-of-lt}
 use Rattle.laws.specs.Sums.{sumOf}
 use Rattle.laws.specs.Tables.{entries}
 use Rattle.laws.proofs.Tables.{length-entries, entry-at}
-use Rattle.array.specs.Cells.{cells}
+use Rattle.array.specs.Cells.{cells, isBoard}
 use Rattle.array.proofs.Board.{side-known}
-use Rattle.light.specs.Lane.{isBoard}
 use Rattle.lanes.specs.Machine.{load, unload}
 use Rattle.prefix.specs.Programs.{prefixed}
 use Rattle.prefix.specs.Results.{prefixSumWords, prefixSumLane}

@@ -16,7 +16,7 @@ use Rattle.answers.specs.declared.Answer.{Answer}
 use Rattle.laws.specs.Lent.{Lent, old}
 use Rattle.array.proofs.Board.{side-known}
 use Rattle.array.specs.Cells.{cells, group}
-use Rattle.logs.specs.Runs.{moves, electronic, swaps}
+use Rattle.runs.specs.Runs.{moves, electronic, swaps}
 use Rattle.lists.specs.declared.Trip.the-variants.{Concentrate, Distribute}
 use Rattle.lists.specs.Lists.{totalMoves, concentrateRuns}
 use Rattle.lists.proofs.Counts.{concentrate-electronic, concentrate-swaps, concentrate-length}

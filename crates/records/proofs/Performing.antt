@@ -14,8 +14,8 @@ use Rattle.laws.proofs.Deciding.{same?}
 use Rattle.laws.proofs.Tables.{length-entries, entry-at}
 use Rattle.array.specs.Cells.{isSide, cells}
 use Rattle.array.proofs.Board.{side-known}
-use Rattle.logs.specs.declared.Run.{Run}
-use Rattle.logs.specs.Runs.{moves}
+use Rattle.runs.specs.declared.Run.{Run}
+use Rattle.runs.specs.Runs.{moves}
 use Rattle.answers.specs.Answers.{logCase}
 use Rattle.answers.specs.Entry.{inFront}
 use Rattle.answers.proofs.Entering.{written}

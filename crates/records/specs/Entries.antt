@@ -6,7 +6,7 @@ use lib.ListN.{length}
 use Rattle.laws.specs.Lent.{Lent, old, Kept}
 use Rattle.answers.specs.declared.Answer.{Answer}
 use Rattle.answers.specs.Entry.{Entry, Unlogged, Written, Logged}
-use Rattle.light.specs.Lanes.{before, after}
+use Rattle.light.specs.Lanes.{tableBefore, tableAfter}
 use Rattle.slots.specs.declared.Cell.{Cell}
 use Rattle.slots.specs.Lanes.{cellsAfter}
 use Rattle.lists.specs.declared.Trip.{Trip}
@@ -27,7 +27,7 @@ sizesOf w w₂ m₂ a₂ = record { words = length w; «spare_words» = length w
 
 -- six lanes hold what they held
 abbrev pub Unchanged : (w m a w₂ m₂ a₂ : Lent) → Type 0
-Unchanged w m a w₂ m₂ a₂ = after w m a w₂ m₂ a₂ ≡ before w m a w₂ m₂ a₂
+Unchanged w m a w₂ m₂ a₂ = tableAfter w m a w₂ m₂ a₂ ≡ tableBefore w m a w₂ m₂ a₂
 
 -- a full run
 abbrev pub FullRun : Trip → ℕ → (w m a w₂ m₂ a₂ codes moved : Lent) → Answer → Type 0

@@ -1,8 +1,8 @@
 // Concentrate and distribute, whole and up to a cut.
-mod runs;
+mod bodies;
 
-use crate::runs::cut_short;
-use crate::runs::full;
+use crate::bodies::cut_short;
+use crate::bodies::full;
 use answers::Answer;
 use lists::Trip;
 ghost use Rattle.lists.specs.declared.Trip.the-variants.{Concentrate, Distribute};

@@ -10,7 +10,7 @@ use lib.ListN.{length, getD, take, drop, set, length-set, drop-of-length-le}
 use lib.Seq.{drop-cons, take-suc-set, take-all}
 use Rattle.laws.proofs.Searching.{Searching, searching-start, searching-next, searching-found, searching-none}
 use Rattle.answers.specs.Answers.{caseOf}
-use Rattle.logs.specs.declared.Run.{Run}
+use Rattle.runs.specs.declared.Run.{Run}
 use Rattle.lists.specs.declared.Trip.{Trip}
 use Rattle.lists.specs.declared.Trip.the-variants.{Concentrate, Distribute}
 use Rattle.marks.specs.Marks.{rankIn}

@@ -1,7 +1,7 @@
 -- The runs of the first moves of a list.
 use Prim.Native.Nat.{ℕ, _-_, min}
 use mathlib.Core.List.{List, [], _∷_}
-use Rattle.logs.specs.declared.Run.{Run}
+use Rattle.runs.specs.declared.Run.{Run}
 
 -- the first k moves, run by run
 abbrev pub firstRuns : ℕ → List Run → List Run

@@ -1,1 +1,3 @@
-pub mod Shifts
+pub mod Inside
+pub mod Programs
+pub mod Results

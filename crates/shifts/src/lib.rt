@@ -1,142 +1,173 @@
-// The move lists of the eight shifts.
-use array::moves::Move;
+// The eight shifts, on a lane of words.
+use array::cells::is_board;
 use array::moves::Way;
 use array::moves::opposite;
-use logs::Run;
-use logs::no_runs;
+use lanes::Joining;
+use lanes::run;
+use light::swap_words;
+use shiftlists::Axis;
+use shiftlists::Edge;
+use shiftlists::distance_of;
+use shiftlists::is_within;
+use shiftlists::shift_runs;
+use sums::Combining;
+use sums::combine;
 ghost use mathlib.Core.Path.{_≡_};
-ghost use Prim.Native.Nat.{_≤_};
-ghost use Rattle.logs.specs.Runs.{along as alongOf, swapping as swappingOf};
-ghost use Rattle.shifts.specs.Shifts.{distanceOf, within, modulo as moduloOf, forthMoves, backMoves, forthWay, swapsOf, shiftList, shiftRuns};
+ghost use mathlib.Core.Bool.{cond};
+ghost use Prim.Native.Nat.{_≤_, _<_};
+ghost use lib.ListN.{length};
+ghost use Rattle.lanes.specs.Stages.{position as positionOf};
+ghost use Rattle.lanes.specs.Inside.{FitsBoard, Moves, swapped};
+ghost use Rattle.shifts.specs.Results.{shiftLane};
+ghost use Rattle.shifts.specs.Inside.{nextSpot, takes as takesOf, chosen, ShiftLanes, meshShift, shiftOn};
 
-// What a shift changes: the column or the row of a cell's place, or of its group.
-pub enum Axis {
-    MeshRow,
-    MeshColumn,
-    GroupRow,
-    GroupColumn,
-}
-
-// What becomes of a word that a shift takes over the edge.
-pub enum Edge {
-    ZeroFill,
-    Circular,
-}
-
-// How far a shift goes forth, or how far back.
-pub struct Distance {
-    pub forth: usize,
-    pub back: usize,
-}
-
-pub fn distance_of(k: i32) -> Distance
-    ensures { λ r. ⌜ r ≡ distanceOf k ⌝ }
+// Whether a cell at position p takes the word that came so many moves around, and not the one that came forth.
+fn takes(edge: Edge, forth: usize, around: usize, p: usize) -> bool
+    ensures { λ r. ⌜ r ≡ takesOf edge forth around p ⌝ }
 {
-    if k < 0 {
-        return Distance {
-            forth: 0,
-            back: (0 - k as i64) as usize,
+    if around == 0 {
+        return false;
+    }
+    match edge {
+        Edge::ZeroFill => true,
+        Edge::Circular => p < forth,
+    }
+}
+
+// A row and a column of a group.
+pub struct Spot {
+    pub row: usize,
+    pub column: usize,
+}
+
+fn position(way: Way, spot: Spot) -> usize
+    ensures { λ r. ⌜ r ≡ positionOf way (spot .row) (spot .column) ⌝ }
+{
+    match way {
+        Way::Right => spot.column,
+        Way::Left => spot.column,
+        Way::Up => spot.row,
+        Way::Down => spot.row,
+    }
+}
+
+// The spot of the next cell; behind the last of a group comes the first of the next group.
+fn next_spot(side: usize, spot: Spot) -> Spot
+    requires { ⌜ (spot .row < side) × (spot .column < side) ⌝ }
+    ensures { λ r. ⌜ r ≡ nextSpot side spot ⌝ }
+{
+    if spot.column + 1 < side {
+        return Spot {
+            row: spot.row,
+            column: spot.column + 1,
         };
     }
-    Distance {
-        forth: k as usize,
-        back: 0,
+    if spot.row + 1 < side {
+        return Spot {
+            row: spot.row + 1,
+            column: 0,
+        };
+    }
+    Spot { row: 0, column: 0 }
+}
+
+fn choose(
+    words: &mut [u32],
+    back: &[u32],
+    side: usize,
+    way: Way,
+    edge: Edge,
+    forth: usize,
+    around: usize,
+)
+    requires { ⌜ 1 ≤ side ⌝ }
+    requires { ⌜ length (now back) ≡ length (now words) ⌝ }
+    ensures { λ _. ⌜ now (words .exit) ≡ chosen side way edge forth around (now (words .entry)) (now (back .entry)) ⌝ }
+{
+    let mut spot = Spot { row: 0, column: 0 };
+    let mut i = 0;
+    while i < words.len() {
+        let p = position(way, spot);
+        let v = pick(takes(edge, forth, around, p), back[i], words[i]);
+        words[i] = v;
+        spot = next_spot(side, spot);
+        i += 1;
     }
 }
 
-pub fn is_within(side: usize, k: Distance) -> bool
-    ensures { λ r. ⌜ r ≡ within side k ⌝ }
+fn pick(first: bool, x: u32, y: u32) -> u32
+    ensures { λ r. ⌜ r ≡ cond first x y ⌝ }
 {
-    k.forth < side && k.back < side
+    if first { x } else { y }
 }
 
-fn modulo(side: usize, k: Distance) -> usize
-    requires { ⌜ (k .back ≤ side) × (k .forth ≤ side) ⌝ }
-    ensures { λ r. ⌜ r ≡ moduloOf side k ⌝ }
-    ensures { λ r. ⌜ r ≤ side ⌝ }
+// A shift inside the groups: what goes forth in words, what goes around in back.
+fn shift_lanes(
+    words: &mut [u32],
+    back: &mut [u32],
+    side: usize,
+    way: Way,
+    edge: Edge,
+    forth: usize,
+    around: usize,
+)
+    requires { ⌜ 1 ≤ side ⌝ }
+    requires { ⌜ length (now back) ≡ length (now words) ⌝ }
+    requires { ⌜ (forth ≤ side) × (around ≤ side) ⌝ }
+    ensures { λ _. ⌜ ShiftLanes side (meshShift side way edge forth around) (now (words .entry)) (now (back .entry)) (now (words .exit)) ⌝ }
 {
-    if 0 < k.back { side - k.back } else { k.forth }
+    combine(Combining::Take, back, &words[..]);
+    run(side, way, Joining::Fill, 0, forth, words);
+    run(side, opposite(way), Joining::Fill, 0, around, back);
+    choose(words, &back[..], side, way, edge, forth, around);
 }
 
-fn forth_moves(edge: Edge, side: usize, k: Distance) -> usize
-    requires { ⌜ (k .back ≤ side) × (k .forth ≤ side) ⌝ }
-    ensures { λ r. ⌜ r ≡ forthMoves edge side k ⌝ }
+fn shift_mesh(words: &mut [u32], side: usize, way: Way, edge: Edge, forth: usize, around: usize)
+    requires { ⌜ FitsBoard side (length (now words)) ⌝ }
+    requires { ⌜ (forth ≤ side) × (around ≤ side) ⌝ }
+    ensures { λ _. ⌜ Moves side (meshShift side way edge forth around) (now (words .entry)) (now (words .exit)) ⌝ }
 {
-    match edge {
-        Edge::ZeroFill => k.forth,
-        Edge::Circular => modulo(side, k),
-    }
+    let mut back = [0u32; 4096];
+    let n = words.len();
+    shift_lanes(words, &mut back[..n], side, way, edge, forth, around);
 }
 
-fn back_moves(edge: Edge, side: usize, k: Distance) -> usize
-    requires { ⌜ (k .back ≤ side) × (k .forth ≤ side) ⌝ }
-    ensures { λ r. ⌜ r ≡ backMoves edge side k ⌝ }
+// A shift of groups: a swap, the same inside the groups, a swap.
+fn shift_groups(words: &mut [u32], side: usize, way: Way, edge: Edge, forth: usize, around: usize)
+    requires { ⌜ FitsBoard side (length (now words)) ⌝ }
+    requires { ⌜ (forth ≤ side) × (around ≤ side) ⌝ }
+    ensures { λ _. ⌜ Moves side (λ σ. swapped (meshShift side way edge forth around (swapped σ))) (now (words .entry)) (now (words .exit)) ⌝ }
 {
-    match edge {
-        Edge::ZeroFill => k.back,
-        Edge::Circular => side - modulo(side, k),
-    }
+    swap_words(side, words);
+    shift_mesh(words, side, way, edge, forth, around);
+    swap_words(side, words);
 }
 
-fn forth_way(axis: Axis) -> Way
-    ensures { λ r. ⌜ r ≡ forthWay axis ⌝ }
+fn shift_all(words: &mut [u32], side: usize, axis: Axis, edge: Edge, forth: usize, around: usize)
+    requires { ⌜ FitsBoard side (length (now words)) ⌝ }
+    requires { ⌜ (forth ≤ side) × (around ≤ side) ⌝ }
+    ensures { λ _. ⌜ Moves side (shiftOn side axis edge forth around) (now (words .entry)) (now (words .exit)) ⌝ }
 {
     match axis {
-        Axis::MeshRow => Way::Right,
-        Axis::MeshColumn => Way::Down,
-        Axis::GroupRow => Way::Right,
-        Axis::GroupColumn => Way::Down,
+        Axis::MeshRow => shift_mesh(words, side, Way::Right, edge, forth, around),
+        Axis::MeshColumn => shift_mesh(words, side, Way::Down, edge, forth, around),
+        Axis::GroupRow => shift_groups(words, side, Way::Right, edge, forth, around),
+        Axis::GroupColumn => shift_groups(words, side, Way::Down, edge, forth, around),
     }
 }
 
-fn swaps_of(axis: Axis) -> usize
-    ensures { λ r. ⌜ r ≡ swapsOf axis ⌝ }
+// Every word moves by k along its row or column, of the mesh or of the groups.
+pub fn shift_words(side: usize, axis: Axis, edge: Edge, k: i32, words: &mut [u32])
+    ensures { λ _. ⌜ now (words .exit) ≡ shiftLane side axis edge k (now (words .entry)) ⌝ }
 {
-    match axis {
-        Axis::MeshRow => 0,
-        Axis::MeshColumn => 0,
-        Axis::GroupRow => 1,
-        Axis::GroupColumn => 1,
+    if !is_board(side, words.len()) {
+        return;
     }
-}
-
-fn along(way: Way, times: usize) -> Run
-    ensures { λ r. ⌜ r ≡ alongOf way times ⌝ }
-{
-    Run {
-        step: Move::Electronic(way),
-        times: times,
+    if !is_within(side, distance_of(k)) {
+        return;
     }
-}
-
-fn swapping(times: usize) -> Run
-    ensures { λ r. ⌜ r ≡ swappingOf times ⌝ }
-{
-    Run {
-        step: Move::Swap,
-        times: times,
-    }
-}
-
-fn shift_list(axis: Axis, forth: usize, back: usize) -> [Run; 9]
-    ensures { λ r. ⌜ r ≡ shiftList axis forth back ⌝ }
-{
-    let way = forth_way(axis);
-    let light = swapping(swaps_of(axis));
-    let there = along(way, forth);
-    let home = along(opposite(way), back);
-    let none = swapping(0);
-    [light, there, home, light, none, none, none, none, none]
-}
-
-pub fn shift_runs(side: usize, axis: Axis, edge: Edge, k: i32) -> [Run; 9]
-    ensures { λ r. ⌜ r ≡ shiftRuns side axis edge k ⌝ }
-{
-    let distance = distance_of(k);
-    if !is_within(side, distance) {
-        return no_runs();
-    }
-    let forth = forth_moves(edge, side, distance);
-    let back = back_moves(edge, side, distance);
-    shift_list(axis, forth, back)
+    let runs = shift_runs(side, axis, edge, k);
+    let forth = runs[1];
+    let around = runs[2];
+    shift_all(words, side, axis, edge, forth.times, around.times);
 }

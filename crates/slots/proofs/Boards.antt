@@ -6,19 +6,18 @@ use mathlib.Core.List.{List}
 use borrow.Author.Tests.{eq-eqb}
 use lib.ListN.{length}
 use Rattle.laws.proofs.Bools.{both-left, both-right}
-use Rattle.array.specs.Cells.{isSide, cells}
-use Rattle.light.specs.Lane.{isBoard}
+use Rattle.array.specs.Cells.{isSide, cells, isBoard}
 use Rattle.light.specs.Lanes.{areSlots, areLanes}
 use Rattle.light.proofs.Boards.{boards-known}
 use Rattle.light.proofs.Turning.{board-side, board-cells}
 use Rattle.slots.specs.Cells.{Sized}
 
 -- what is known of lanes that are those of a board
-pub record Lanes (s : ℕ) (w m a w₂ m₂ a₂ : List ℕ) : Type 0 where
+pub record BoardLanes (s : ℕ) (w m a w₂ m₂ a₂ : List ℕ) : Type 0 where
   pub side : isSide s ≡ true
   pub sized : Sized (cells s) w m a w₂ m₂ a₂
 
-pub lanes-known : (s : ℕ) (w m a w₂ m₂ a₂ : List ℕ) → areLanes s (length w) (length m) (length a) (length w₂) (length m₂) (length a₂) ≡ true → Lanes s w m a w₂ m₂ a₂
+pub lanes-known : (s : ℕ) (w m a w₂ m₂ a₂ : List ℕ) → areLanes s (length w) (length m) (length a) (length w₂) (length m₂) (length a₂) ≡ true → BoardLanes s w m a w₂ m₂ a₂
 lanes-known s w m a w₂ m₂ a₂ h =
     let fronts = areSlots s (length w) (length m) (length a) in
     let spares = areSlots s (length w₂) (length m₂) (length a₂) in

@@ -6,9 +6,9 @@ use mathlib.Core.List.{List}
 use native.Mathlib.Omega.{arith}
 use lib.ListN.{length, getD}
 use Rattle.array.specs.declared.moves.Way.the-variants.{Right, Left, Up, Down}
-use Rattle.array.specs.Cells.{group, place, row, column, isCell}
+use Rattle.array.specs.Cells.{group, place, row, column, isCell, isBoard}
 use Rattle.array.proofs.Board.{cell-known}
-use Rattle.light.specs.Lane.{isBoard, swappedLane}
+use Rattle.light.specs.Lane.{swappedLane}
 use Rattle.lanes.specs.declared.Joining.the-variants.{Add, Copy}
 use Rattle.lanes.specs.Machine.{made}
 use Rattle.lanes.specs.Runs.{ranWords}

@@ -4,8 +4,7 @@ use mathlib.Core.Bool.{cond, _&&_}
 use mathlib.Core.List.{List}
 use lib.ListN.{length, getD, replicate}
 use Rattle.laws.specs.Sums.{sumOf}
-use Rattle.array.specs.Cells.{cells, isCell}
-use Rattle.light.specs.Lane.{isBoard}
+use Rattle.array.specs.Cells.{cells, isCell, isBoard}
 
 -- every word is that of cell i
 abbrev pub broadcastWords : ℕ → ℕ → List ℕ → List ℕ

@@ -1,9 +1,9 @@
 // Broadcast and data sum, on a lane of words: at the end every cell has the same word.
+use array::cells::is_board;
 use array::cells::is_cell;
 use array::moves::Way;
 use lanes::Joining;
 use lanes::run;
-use light::is_board;
 use light::swap_words;
 ghost use mathlib.Core.Path.{_≡_};
 ghost use Prim.Native.Nat.{_≤_, _<_};

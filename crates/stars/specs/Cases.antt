@@ -4,10 +4,10 @@ use mathlib.Core.List.{List, [], _∷_}
 use lib.IntN.{ℤ, pos}
 use lib.ListN.{replicate}
 use Rattle.laws.specs.Tables.{entries}
-use Rattle.shifts.specs.declared.Axis.{Axis}
-use Rattle.shifts.specs.declared.Axis.the-variants.{MeshRow, GroupColumn}
-use Rattle.shifts.specs.declared.Edge.{Edge}
-use Rattle.shifts.specs.declared.Edge.the-variants.{ZeroFill, Circular}
+use Rattle.shiftlists.specs.declared.Axis.{Axis}
+use Rattle.shiftlists.specs.declared.Axis.the-variants.{MeshRow, GroupColumn}
+use Rattle.shiftlists.specs.declared.Edge.{Edge}
+use Rattle.shiftlists.specs.declared.Edge.the-variants.{ZeroFill, Circular}
 
 -- an operation, the side and what it is given; concentrate's aims come from rank
 pub data Case : Type 0 where

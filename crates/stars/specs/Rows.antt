@@ -5,15 +5,15 @@ use lib.IntN.{ℤ}
 use lib.ListN.{length, getD}
 use Rattle.laws.specs.Tables.{entries}
 use Rattle.answers.specs.declared.Answer.{Answer}
-use Rattle.logs.specs.declared.Run.{Run}
+use Rattle.runs.specs.declared.Run.{Run}
 use Rattle.array.specs.Cells.{cells}
-use Rattle.logs.specs.Runs.{moves, swapsIn, codes as codesOf}
+use Rattle.runs.specs.Runs.{moves, swapsIn, codes as codesOf}
 use Rattle.lists.specs.declared.Trip.{Trip}
 use Rattle.lists.specs.declared.Trip.the-variants.{Concentrate as concentrate, Distribute as distribute}
 use Rattle.lists.specs.Lists.{totalMoves, dataSumRuns, prefixSumRuns, runsOf}
-use Rattle.shifts.specs.Shifts.{distanceOf, shiftRuns}
-use Rattle.shifts.specs.declared.Axis.{Axis}
-use Rattle.shifts.specs.declared.Edge.{Edge}
+use Rattle.shiftlists.specs.Shifts.{distanceOf, shiftRuns}
+use Rattle.shiftlists.specs.declared.Axis.{Axis}
+use Rattle.shiftlists.specs.declared.Edge.{Edge}
 use Rattle.answers.specs.Answers.{verdict, acceptedBy}
 use Rattle.lanes.specs.Machine.{load, unload, made, runsOf as programRuns}
 use Rattle.lanes.specs.Stages.{front}
@@ -21,8 +21,8 @@ use Rattle.spreads.specs.Programs.{dataSum}
 use Rattle.spreads.specs.Results.{dataSumWords}
 use Rattle.prefix.specs.Programs.{prefixSum, prefixed}
 use Rattle.prefix.specs.Results.{prefixSumWords}
-use Rattle.slides.specs.Programs.{shift, shiftedBy}
-use Rattle.slides.specs.Results.{shiftWords}
+use Rattle.shifts.specs.Programs.{shift, shiftedBy}
+use Rattle.shifts.specs.Results.{shiftWords}
 use Rattle.words.specs.Entries.{sumCases, shiftCases}
 use Rattle.slots.specs.declared.Cell.{Cell}
 use Rattle.slots.specs.Cells.{empty, joined, cellAt}

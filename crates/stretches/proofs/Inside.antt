@@ -8,7 +8,7 @@ use lib.ListN.{length, take, drop}
 use borrow.Author.Tests.{not-false, ltb-true, eq-eqb, ne-eqb}
 use Rattle.answers.specs.declared.Answer.{Answer}
 use Rattle.array.specs.Cells.{groups, cells, cell}
-use Rattle.logs.specs.Runs.{noRuns}
+use Rattle.runs.specs.Runs.{noRuns}
 use Rattle.answers.specs.Answers.{acceptedBy}
 use Rattle.array.proofs.Board.{Side, side-known}
 use Rattle.answers.proofs.Verdicts.{none-refuses, side-built, lane-whole}

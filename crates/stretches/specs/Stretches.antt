@@ -7,7 +7,7 @@ use lib.ListN.{length, take, drop}
 use Rattle.answers.specs.declared.Answer.{Answer}
 use Rattle.answers.specs.declared.Case.{Case}
 use Rattle.array.specs.Cells.{groups, cell}
-use Rattle.logs.specs.Runs.{noRuns}
+use Rattle.runs.specs.Runs.{noRuns}
 use Rattle.answers.specs.Answers.{acceptedBy, caseOf, verdict, sideCase, laneCase}
 
 -- 4: there is no such group

@@ -5,7 +5,7 @@ use answers::accepted_by;
 use answers::case_of;
 use answers::refusing;
 use answers::refusing_lane;
-use logs::no_runs;
+use runs::no_runs;
 ghost use mathlib.Core.Path.{_≡_};
 ghost use lib.Dec.{ltb};
 ghost use lib.ListN.{length};

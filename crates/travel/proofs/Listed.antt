@@ -13,10 +13,10 @@ use lib.ListN.{length, drop, take, getD, replicate, drop-of-length-le, length-ap
 use lib.Seq.{drop-cons}
 use Rattle.array.specs.declared.moves.Move.{Move}
 use Rattle.array.specs.declared.moves.Move.the-variants.{Swap, Electronic}
-use Rattle.logs.specs.declared.Run.{Run}
+use Rattle.runs.specs.declared.Run.{Run}
 use Rattle.travel.specs.declared.turns.Turn.{Turn}
 use Rattle.array.specs.Moves.{turned}
-use Rattle.logs.specs.Runs.{swapsIn, swaps, moves}
+use Rattle.runs.specs.Runs.{swapsIn, swaps, moves}
 use Rattle.travel.specs.Turns.{turnIn}
 
 -- how many swaps are made once some moves are made, where so many were made before them

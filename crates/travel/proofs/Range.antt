@@ -11,8 +11,8 @@ use Rattle.array.specs.declared.moves.Move.{Move}
 use Rattle.array.specs.declared.moves.Move.the-variants.{Swap, Electronic}
 use Rattle.array.specs.Cells.{cells, cell, place, group, partner}
 use Rattle.travel.proofs.Listed.{swapsOf, turn-step, turn-swaps}
-use Rattle.logs.specs.declared.Run.{Run}
-use Rattle.logs.specs.Runs.{moves}
+use Rattle.runs.specs.declared.Run.{Run}
+use Rattle.runs.specs.Runs.{moves}
 use Rattle.lists.specs.Lists.{concentrateRuns}
 use Rattle.lists.proofs.Counts.{concentrate-length}
 use Rattle.travel.specs.Travel.{concentrateMoves, toward, heading, travel, stands}

@@ -10,8 +10,8 @@ use Rattle.array.specs.declared.moves.Way.{Way}
 use Rattle.array.specs.declared.moves.Way.the-variants.{Right, Left, Up, Down}
 use Rattle.array.specs.declared.moves.Move.{Move}
 use Rattle.array.specs.declared.moves.Move.the-variants.{Swap, Electronic}
-use Rattle.logs.specs.declared.Run.{Run}
-use Rattle.logs.specs.Runs.{moves, along}
+use Rattle.runs.specs.declared.Run.{Run}
+use Rattle.runs.specs.Runs.{moves, along}
 use Rattle.lists.specs.Lists.{concentrateRuns}
 use Rattle.travel.proofs.Walk.{Steps, none, made, onto, tally}
 

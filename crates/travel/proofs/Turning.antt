@@ -13,8 +13,8 @@ use Rattle.array.specs.declared.moves.Move.{Move}
 use Rattle.array.specs.declared.moves.Move.the-variants.{Swap, Electronic}
 use Rattle.array.specs.Cells.{partner}
 use Rattle.array.specs.Moves.{opposite, turned}
-use Rattle.logs.specs.declared.Run.{Run}
-use Rattle.logs.specs.Runs.{moves, swapsIn, swaps}
+use Rattle.runs.specs.declared.Run.{Run}
+use Rattle.runs.specs.Runs.{moves, swapsIn, swaps}
 use Rattle.lists.specs.Lists.{concentrateRuns, distributeRuns}
 use Rattle.travel.specs.Turns.{turnIn, turnAt}
 use Rattle.travel.specs.Travel.{toward, heading, travel}

@@ -9,7 +9,7 @@ use Rattle.array.specs.declared.moves.Way.the-variants.{Right, Left, Up, Down}
 use Rattle.array.specs.declared.moves.Move.{Move}
 use Rattle.array.specs.declared.moves.Move.the-variants.{Swap, Electronic}
 use Rattle.array.specs.Cells.{groups, partner, place, row, column, onward}
-use Rattle.logs.specs.Runs.{moves}
+use Rattle.runs.specs.Runs.{moves}
 use Rattle.lists.specs.Lists.{concentrateRuns}
 
 -- how far place h lies from place p, one way: 0 where its column or row is not greater that way

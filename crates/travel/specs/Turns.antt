@@ -4,8 +4,8 @@ use mathlib.Core.Bool.{cond}
 use mathlib.Core.List.{List, [], _∷_}
 use lib.Dec.{ltb}
 use Rattle.array.specs.declared.moves.Move.the-variants.{Swap}
-use Rattle.logs.specs.declared.Run.{Run}
-use Rattle.logs.specs.Runs.{swapsIn}
+use Rattle.runs.specs.declared.Run.{Run}
+use Rattle.runs.specs.Runs.{swapsIn}
 use Rattle.travel.specs.declared.turns.Turn.{Turn}
 
 -- move k of a list, where so many swaps were made before the list

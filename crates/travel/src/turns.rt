@@ -1,7 +1,7 @@
 // One move of a list of runs.
 use array::moves::Move;
-use logs::Run;
-use logs::swaps_in;
+use runs::Run;
+use runs::swaps_in;
 ghost use mathlib.Core.Path.{_≡_};
 ghost use Rattle.travel.specs.Turns.{turnAt};
 

@@ -7,19 +7,19 @@ use lib.IntN.{ℤ}
 use lib.Dec.{ltb}
 use borrow.Author.Tests.{ltb-true}
 use Rattle.laws.proofs.Bools.{both-left, both-right}
-use Rattle.shifts.specs.declared.Axis.{Axis}
-use Rattle.shifts.specs.declared.Axis.the-variants.{MeshRow, MeshColumn, GroupRow, GroupColumn}
-use Rattle.shifts.specs.declared.Edge.{Edge}
-use Rattle.shifts.specs.declared.Edge.the-variants.{ZeroFill, Circular}
-use Rattle.shifts.specs.declared.Distance.{Distance}
+use Rattle.shiftlists.specs.declared.Axis.{Axis}
+use Rattle.shiftlists.specs.declared.Axis.the-variants.{MeshRow, MeshColumn, GroupRow, GroupColumn}
+use Rattle.shiftlists.specs.declared.Edge.{Edge}
+use Rattle.shiftlists.specs.declared.Edge.the-variants.{ZeroFill, Circular}
+use Rattle.shiftlists.specs.declared.Distance.{Distance}
 use Rattle.array.specs.Cells.{isSide, isCell}
-use Rattle.logs.specs.Runs.{electronic}
+use Rattle.runs.specs.Runs.{electronic}
 use Rattle.lists.specs.Lists.{broadcastList, broadcastRuns, dataSumRuns, prefixSumRuns}
-use Rattle.shifts.specs.Shifts.{distanceOf, within, forthMoves, backMoves, swapsOf, shiftList, shiftRuns}
+use Rattle.shiftlists.specs.Shifts.{distanceOf, within, forthMoves, backMoves, swapsOf, shiftList, shiftRuns}
 use Rattle.answers.specs.Answers.{accepted, acceptedBy}
 use Rattle.array.proofs.Board.{side-known, cell-known}
 use Rattle.lists.proofs.Counts.{data-sum-electronic, prefix-sum-electronic, broadcast-electronic}
-use Rattle.shifts.proofs.Counts.{zero-fill-electronic, circular-electronic, shift-swaps}
+use Rattle.shiftlists.proofs.Counts.{zero-fill-electronic, circular-electronic, shift-swaps}
 use Rattle.answers.proofs.Verdicts.{counted}
 
 pub broadcast-counts : (s i : ℕ) → isCell s i ≡ true → acceptedBy (broadcastRuns s i) ≡ accepted (4 * (s - 1)) 1

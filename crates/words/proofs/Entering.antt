@@ -8,14 +8,13 @@ use lib.Seq.{sets}
 use borrow.Author.Tests.{eq-eqb}
 use Rattle.answers.specs.declared.Answer.{Answer}
 use Rattle.answers.specs.declared.Case.{Case}
-use Rattle.logs.specs.declared.Run.{Run}
-use Rattle.array.specs.Cells.{cells}
-use Rattle.logs.specs.Runs.{codes}
+use Rattle.runs.specs.declared.Run.{Run}
+use Rattle.array.specs.Cells.{cells, isBoard}
+use Rattle.runs.specs.Runs.{codes}
 use Rattle.answers.specs.Answers.{acceptedBy, verdict, sideCase, laneCase, logCase}
 use Rattle.answers.specs.Entry.{Entry, inFront}
 use Rattle.answers.proofs.Verdicts.{NoneApplies, allRefuse, none-refuses, side-built, lane-whole}
 use Rattle.answers.proofs.Entering.{entry-accepted, logged}
-use Rattle.light.specs.Lane.{isBoard}
 
 -- the table of cases of an entry on words, with what it has behind 1, 2 and 3
 abbrev table : ℕ → List Run → List Case → ℕ → ℕ → List Case

@@ -8,17 +8,17 @@ use lib.ListN.{length}
 use Rattle.laws.specs.Lent.{Lent, old, new, Kept}
 use Rattle.answers.specs.declared.Answer.{Answer}
 use Rattle.answers.specs.declared.Case.{Case}
-use Rattle.logs.specs.declared.Run.{Run}
-use Rattle.shifts.specs.declared.Axis.{Axis}
-use Rattle.shifts.specs.declared.Edge.{Edge}
+use Rattle.runs.specs.declared.Run.{Run}
+use Rattle.shiftlists.specs.declared.Axis.{Axis}
+use Rattle.shiftlists.specs.declared.Edge.{Edge}
 use Rattle.array.specs.Cells.{isCell}
 use Rattle.lists.specs.Lists.{broadcastRuns, dataSumRuns, prefixSumRuns}
-use Rattle.shifts.specs.Shifts.{distanceOf, within, shiftRuns}
+use Rattle.shiftlists.specs.Shifts.{distanceOf, within, shiftRuns}
 use Rattle.answers.specs.Answers.{caseOf, sideCase, laneCase, logCase}
 use Rattle.answers.specs.Entry.{Entry, Logged}
 use Rattle.spreads.specs.Results.{broadcastWords, dataSumWords}
 use Rattle.prefix.specs.Results.{prefixSumWords}
-use Rattle.slides.specs.Results.{shiftWords}
+use Rattle.shifts.specs.Results.{shiftWords}
 
 -- 4: there is no such cell; the distance is not within the side
 abbrev pub cellCase : ℕ → ℕ → Case

@@ -3,8 +3,8 @@ use Prim.Native.Nat.{ℕ, _+_, _-_, _%_, _^_, _≤_}
 use mathlib.Core.Path.{refl, ap, ap₂, _∙_}
 use borrow.Author.Needs.{needs}
 use Rattle.array.specs.declared.moves.Move.the-variants.{Swap}
-use Rattle.logs.specs.declared.Run.{Run}
-use Rattle.logs.specs.Runs.{electronicIn, swapsIn, electronic as electronicOf, swaps as swapsOf}
+use Rattle.runs.specs.declared.Run.{Run}
+use Rattle.runs.specs.Runs.{electronicIn, swapsIn, electronic as electronicOf, swaps as swapsOf}
 use Rattle.answers.specs.Answers.{accepted}
 use Rattle.answers.proofs.Counting.{Counting, counting-start, counting-next, counting-end}
 use Rattle.answers.proofs.accepted_by.Statement.{statement}

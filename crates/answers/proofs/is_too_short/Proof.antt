@@ -2,8 +2,8 @@
 use mathlib.Core.Path.{sym, _∙_}
 use borrow.Author.Needs.{needs}
 use borrow.Author.Tests.{lt-ltb, le-ltb}
-use Rattle.logs.specs.Runs.{moves}
-use Rattle.logs.proofs.Steps.{step-found, step-past}
+use Rattle.runs.specs.Runs.{moves}
+use Rattle.runs.proofs.Steps.{step-found, step-past}
 use Rattle.answers.proofs.is_too_short.Statement.{statement}
 use Rattle.answers.proofs.is_too_short.Tie as tie
 

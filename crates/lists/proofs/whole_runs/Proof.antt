@@ -7,7 +7,7 @@ use native.Mathlib.Omega.{arith}
 use borrow.Author.Needs.{needs}
 use Rattle.laws.proofs.Filling.{Filled, filled-start, filled-next, filled-map}
 use Rattle.array.specs.declared.moves.Move.the-variants.{Swap}
-use Rattle.logs.specs.Runs.{whole}
+use Rattle.runs.specs.Runs.{whole}
 use Rattle.lists.proofs.whole_runs.Statement.{statement}
 use Rattle.lists.proofs.whole_runs.Tie as tie
 

@@ -1,7 +1,7 @@
 use borrow.Author.Needs.{needs}
 use Rattle.mover.proofs.leg_of.Statement.{statement}
 use Rattle.mover.proofs.leg_of.Tie as tie
-use Rattle.logs.proofs.electronic_in.Reads as electronic-in-reads
+use Rattle.runs.proofs.electronic_in.Reads as electronic-in-reads
 
 way-of-requires : tie.Need-way-of-requires
 way-of-requires c κs = search needs

@@ -1,7 +1,7 @@
 use mathlib.Core.Bool.{Bool}
 use lib.Seq.{sets}
 use Rattle.laws.specs.Tables.{entries}
-use Rattle.mover.specs.Inside.{countOf}
+use Rattle.mover.specs.Inside.{movedIn}
 use Prim.Native.Nat.{_-_, _≤_, min}
 use mathlib.Core.Path.{_≡_, refl, sym, ap, _∙_}
 use native.Mathlib.Omega.{arith}
@@ -10,20 +10,20 @@ use lib.ListN.{length, getD}
 use Rattle.array.specs.declared.moves.Move.the-variants.{Swap}
 use Rattle.array.specs.Cells.{cells}
 use Rattle.array.proofs.Board.{side-known}
-use Rattle.logs.specs.declared.Run.{Run}
+use Rattle.runs.specs.declared.Run.{Run}
 use Rattle.slots.specs.Cells.{Sized, cellAt}
-use Rattle.slots.proofs.Boards.{Lanes, lanes-known}
+use Rattle.slots.proofs.Boards.{BoardLanes, lanes-known}
 use Rattle.mover.specs.Runs.{isLate}
 use Rattle.mover.proofs.Running.{Running, running-start, running-next, running-end, ran-nothing, few-swaps, went-some, counts-few, run-made, made-leg}
 use Rattle.mover.proofs.run.Statement.{statement}
 use Rattle.mover.proofs.run.Tie as tie
 use Rattle.laws.proofs.least.Reads as least-reads
 use Rattle.light.proofs.are_lanes.Reads as are-lanes-reads
-use Rattle.logs.proofs.swaps_in.Reads as swaps-in-reads
+use Rattle.runs.proofs.swaps_in.Reads as swaps-in-reads
 
 abbrev Inv-loop : tie.InvT-loop
 Inv-loop trip side cut words₀ marks₀ aims₀ spare-words₀ spare-marks₀ spare-aims₀ moved₀ runs late swaps₀ done₀ q₀ words marks aims spare-words spare-marks spare-aims moved swaps done q =
-    Lanes side words₀ marks₀ aims₀ spare-words₀ spare-marks₀ spare-aims₀ × Sized (cells side) words marks aims spare-words spare-marks spare-aims × (length moved ≡ length moved₀) × (q ≤ 9)
+    BoardLanes side words₀ marks₀ aims₀ spare-words₀ spare-marks₀ spare-aims₀ × Sized (cells side) words marks aims spare-words spare-marks spare-aims × (length moved ≡ length moved₀) × (q ≤ 9)
     × (late ≡ isLate trip)
     × Running trip side runs cut q done swaps (cellAt words₀ marks₀ aims₀ spare-words₀ spare-marks₀ spare-aims₀) (cellAt words marks aims spare-words spare-marks spare-aims) moved₀ moved
 
@@ -104,7 +104,7 @@ loop-again c = let s = c .before .before .before .before .before .before .before
     let m = c .before .before .before .before .before .before .before .before .before .before .before .before .before .before .before .before .before .before .before .before .before .before .before .before .before .least .result in
     let T = cellAt (l .words) (l .marks) (l .aims) (l .spare-words) (l .spare-marks) (l .spare-aims) in
     let z = made-leg (c .before .before .before .before .before .before .before .before .before .before .before .before .before .before .before .before .before .before .before .before .before .before .before .leg-of .ensures) (c .before .before .before .before .before .before .before .before .before .before .before .before .before .before .before .before .before .before .before .before .before .before .before .before .swaps-in .ensures) (y .ensures) in
-    let e = g .ensures ∙ ap (λ (b : Bool). sets (l .moved) (l .done) (entries (countOf b (r .times) (y .result)) 0 m)) (i .4) in
+    let e = g .ensures ∙ ap (λ (b : Bool). sets (l .moved) (l .done) (entries (movedIn b (r .times) (y .result)) 0 m)) (i .4) in
     let o = run-made (a .trip) (a .side) (i .0 .side) (l .swaps) (r .times) m (omega (arith, c .before .before .before .before .before .before .before .before .before .before .before .before .before .before .before .before .before .before .before .before .before .before .before .before .before .least .ensures)) T (r .step) z e in (
       i .0,
       omega (arith, i .1, y .kept),

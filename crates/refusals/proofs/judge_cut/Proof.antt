@@ -3,7 +3,7 @@ use mathlib.Core.Path.{refl, ap, _∙_}
 use mathlib.Core.List.{List, [], _∷_}
 use lib.ListN.{length}
 use Rattle.lists.specs.Lists.{runsOf}
-use Rattle.logs.specs.declared.Run.{Run}
+use Rattle.runs.specs.declared.Run.{Run}
 use Rattle.answers.specs.Answers.{acceptedBy, verdict}
 use Rattle.answers.proofs.Verdicts.{case-before, at-once, none-yet, still-accepted, later}
 use Rattle.refusals.specs.Cases.{aimsCase, cutCase}

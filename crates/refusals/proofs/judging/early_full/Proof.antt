@@ -3,7 +3,7 @@ use Prim.Native.Nat.{ℕ}
 use mathlib.Core.Path.{_≡_, ap, _∙_}
 use mathlib.Core.List.{List}
 use lib.ListN.{length}
-use Rattle.logs.specs.declared.Run.{Run}
+use Rattle.runs.specs.declared.Run.{Run}
 use Rattle.answers.specs.Answers.{acceptedBy, verdict, logCase}
 use Rattle.answers.proofs.Verdicts.{case-before}
 use Rattle.refusals.specs.Cases.{laneCases}

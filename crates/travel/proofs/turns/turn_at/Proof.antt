@@ -5,7 +5,7 @@ use native.Mathlib.Omega.{arith}
 use lib.ListN.{drop, getD}
 use borrow.Author.Needs.{needs}
 use Rattle.array.specs.declared.moves.Move.the-variants.{Swap}
-use Rattle.logs.specs.declared.Run.{Run}
+use Rattle.runs.specs.declared.Run.{Run}
 use Rattle.travel.specs.Turns.{turnIn}
 use Rattle.travel.proofs.Listed.{turn-found, turn-next, turn-none, few-swaps}
 use Rattle.travel.proofs.turns.turn_at.Statement.{statement}

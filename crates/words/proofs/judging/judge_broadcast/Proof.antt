@@ -1,6 +1,6 @@
 -- `words::judging::judge_broadcast` meets its contract: the four cases in their order.
 use mathlib.Core.Path.{ap, _∙_}
-use Rattle.logs.specs.declared.Run.{Run}
+use Rattle.runs.specs.declared.Run.{Run}
 use Rattle.answers.specs.Answers.{acceptedBy, logCase}
 use Rattle.answers.proofs.Verdicts.{case-before, lane-before}
 use mathlib.Core.List.{List}

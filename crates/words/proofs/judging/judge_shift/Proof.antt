@@ -1,12 +1,12 @@
 -- `words::judging::judge_shift` meets its contract: the four cases in their order, of the distance as the machine reads it.
 use mathlib.Core.Path.{ap, _∙_}
-use Rattle.logs.specs.declared.Run.{Run}
+use Rattle.runs.specs.declared.Run.{Run}
 use Rattle.answers.specs.Answers.{acceptedBy, logCase}
 use Rattle.answers.proofs.Verdicts.{case-before, lane-before}
 use mathlib.Core.List.{List}
 use mir.Syntax.{w32}
 use mir.ValLaws.{toZ-ofZ}
-use Rattle.shifts.specs.Shifts.{shiftRuns}
+use Rattle.shiftlists.specs.Shifts.{shiftRuns}
 use lib.IntN.{ℤ}
 use borrow.Author.Needs.{needs}
 use Rattle.words.proofs.judging.judge_shift.Statement.{statement}

@@ -1,0 +1,25 @@
+-- `shifts::shift_groups` meets its contract: a swap, the shift inside the groups, a swap.
+use Rattle.shifts.proofs.Composing.{shift-groups}
+use borrow.Author.Needs.{needs}
+use Rattle.shifts.proofs.shift_groups.Statement.{statement}
+use Rattle.shifts.proofs.shift_groups.Tie as tie
+
+swap-words-requires : tie.Need-swap-words-requires
+swap-words-requires c κs = search needs
+
+shift-mesh-requires : tie.Need-shift-mesh-requires
+shift-mesh-requires c κs = search needs
+
+swap-words-requires-2 : tie.Need-swap-words-requires-2
+swap-words-requires-2 c κs = search needs
+
+same-length : tie.Need-same-length
+same-length c = search needs
+
+returns : tie.Need-returns
+returns c = shift-groups _ _ (c .before .before .before .before .before .before .before .before .before .before .swap-words .ensures) (c .before .before .before .before .before .before .shift-mesh .ensures) (c .before .before .swap-words2 .ensures)
+
+pub shift-groups-spec : {M : Type 1} → statement M
+shift-groups-spec =
+    tie.close
+    (tie.spec swap-words-requires shift-mesh-requires swap-words-requires-2 same-length returns)

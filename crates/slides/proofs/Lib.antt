@@ -1,3 +1,0 @@
-pub mod Composing
-pub mod Shifting
-pub mod Spotted
