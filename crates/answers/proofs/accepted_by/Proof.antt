@@ -65,10 +65,12 @@ accepted-requires c κs = search needs
 
 returns : tie.Need-returns Inv-loop μ-loop
 returns c =
+    let s = c .before .before .before in
     let l = c .before .before .loop in
-    let rs = c .before .before .before .args .t1 in
+    let rs = s .args .t1 in
     c .accepted .ensures
-    ∙ ap₂ accepted (counting-end electronicOf (2 ^ 64) rs refl (l .q) (l .electronic) (search needs) (l .inv .1)) (counting-end swapsOf (2 ^ 64) rs refl (l .q) (l .swaps) (search needs) (l .inv .2))
+    ∙ ap₂ accepted (counting-end electronicOf (2 ^ 64) rs refl (l .q) (l .electronic) (search needs) (l .inv .1))
+    (counting-end swapsOf (2 ^ 64) rs refl (l .q) (l .swaps) (search needs) (l .inv .2))
 
 pub accepted-by-spec : {M : Type 1} → statement M
 accepted-by-spec =

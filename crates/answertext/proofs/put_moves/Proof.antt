@@ -42,7 +42,11 @@ loop-less : tie.Need-loop-less Inv-loop μ-loop
 loop-less c = search needs
 
 loop-again : tie.Need-loop-again Inv-loop μ-loop
-loop-again c = moves-next (c .before .before .before .before .before .before .before .before .before .before .before .before .args .codes .now) (c .before .before .before .before .before .before .before .before .before .before .before .before .args .moved .now) (c .before .before .before .before .before .before .before .before .loop .inv) (search needs) (c .before .before .before .log-line .ensures) (c .before .before .put-move .ensures)
+loop-again c =
+    let l = c .before .before .before in
+    let l₂ = l .before .before .before .before .before in
+    let s = l₂ .before .before .before .before in
+    moves-next (s .args .codes .now) (s .args .moved .now) (l₂ .loop .inv) (search needs) (l .log-line .ensures) (c .before .before .put-move .ensures)
 
 same-length : tie.Need-same-length Inv-loop μ-loop
 same-length c = search needs

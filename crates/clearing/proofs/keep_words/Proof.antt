@@ -18,7 +18,9 @@ abbrev μ-loop : tie.MeasureT-loop
 μ-loop marks lane₀ i₀ lane i = length lane₀ - i
 
 loop-holds : tie.Need-loop-holds Inv-loop μ-loop
-loop-holds c = (omega arith, rewriting-start (keptAt (c .before .before .args .marks .now) (c .before .before .args .words .now)) 0 (c .before .before .args .words .now))
+loop-holds c =
+    let s = c .before .before in
+    (omega arith, rewriting-start (keptAt (s .args .marks .now) (s .args .words .now)) 0 (s .args .words .now))
 
 mark-at-requires : tie.Need-mark-at-requires Inv-loop μ-loop
 mark-at-requires c κs = search needs
@@ -37,13 +39,17 @@ loop-less c = omega (arith, c .before .before .loop-test .taken, c .before .befo
 
 loop-again : tie.Need-loop-again Inv-loop μ-loop
 loop-again c =
-    let s = c .before .before .before .before .before .before in
-    let l = c .before .before .before .loop in
+    let m = c .before in
+    let l₂ = m .before in
+    let l₃ = l₂ .before in
+    let b = l₃ .before .before in
+    let s = b .before in
+    let l = l₃ .loop in
     let f = keptAt (s .args .marks .now) (s .args .words .now) in (
-      omega (arith, c .before .before .loop-test .taken, l .inv .1 .long),
+      omega (arith, l₂ .loop-test .taken, l .inv .1 .long),
       ⊎-elim
-          (λ w. rw (w .1) (rewriting-store f 0 (s .args .words .now) 0 (c .before .before .loop-test .taken) (sym (rw (ne-eqb _ _ (λ e. w .0 .taken (c .before .mark-at .ensures ∙ e))))) (l .inv .1)))
-          (λ w. rw (w .1) (rewriting-keep f 0 (s .args .words .now) (sym (rw (eq-eqb _ _ (sym (c .before .mark-at .ensures) ∙ w .0 .left)))) (l .inv .1)))
+          (λ w. rw (w .1) (rewriting-store f 0 (s .args .words .now) 0 (l₂ .loop-test .taken) (sym (rw (ne-eqb _ _ (λ e. w .0 .taken (m .mark-at .ensures ∙ e))))) (l .inv .1)))
+          (λ w. rw (w .1) (rewriting-keep f 0 (s .args .words .now) (sym (rw (eq-eqb _ _ (sym (m .mark-at .ensures) ∙ w .0 .left)))) (l .inv .1)))
           (c .if1 .came),
     )
 

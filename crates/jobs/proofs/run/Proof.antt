@@ -33,7 +33,10 @@ array-borrow-prefix-words : tie.Need-array-borrow-prefix-words
 array-borrow-prefix-words c = words-room _ (c .before .before .before .before .read .ensures) _ _ (c .before .before .job .given .1)
 
 slice-aggregate-solve : tie.Need-slice-aggregate-solve
-slice-aggregate-solve c = sym (ready-lanes _ (c .before .before .before .before .before .read .ensures) _ _ (c .before .before .before .job .given .1) .words-long)
+slice-aggregate-solve c =
+    let j = c .before .before .before in
+    let r = j .before .before in
+    sym (ready-lanes _ (r .read .ensures) _ _ (j .job .given .1) .words-long)
 
 array-borrow-prefix-marks : tie.Need-array-borrow-prefix-marks
 array-borrow-prefix-marks c = marks-room _ (c .before .before .before .before .before .read .ensures) _ _ (c .before .before .before .job .given .1)

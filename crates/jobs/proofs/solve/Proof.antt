@@ -13,7 +13,9 @@ slice-aggregate-settle-lanes-2 : tie.Need-slice-aggregate-settle-lanes-2
 slice-aggregate-settle-lanes-2 c = search needs
 
 settle-lanes-requires : tie.Need-settle-lanes-requires
-settle-lanes-requires c κs = let b = c .before .before .before .before .before .before .pre in (b .side, ((b .words-long, b .marks-long), (b .good, search needs)))
+settle-lanes-requires c κs =
+    let s = c .before .before .before .before .before .before in
+    let b = s .pre in (b .side, ((b .words-long, b .marks-long), (b .good, search needs)))
 
 slice-aggregate-print : tie.Need-slice-aggregate-print
 slice-aggregate-print c = search needs

@@ -83,7 +83,10 @@ loop-less : tie.Need-loop-less Inv-loop μ-loop
 loop-less c = search needs
 
 loop-again : tie.Need-loop-again Inv-loop μ-loop
-loop-again c = cells-next (c .before .before .before .before .before .before .before .before .before .loop .inv) (search needs) _ (search needs) (search needs) (search needs) (c .before .before .before .read-entry .result) (search needs) _ _ (search needs)
+loop-again c =
+    let r = c .before .before .before in
+    let l = r .before .before .before .before .before .before in
+    cells-next (l .loop .inv) (search needs) _ (search needs) (search needs) (search needs) (r .read-entry .result) (search needs) _ _ (search needs)
 
 returns-3 : tie.Need-returns-3 Inv-loop μ-loop
 returns-3 c = search cells-end

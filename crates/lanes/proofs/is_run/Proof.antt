@@ -10,10 +10,14 @@ is-board-requires : tie.Need-is-board-requires
 is-board-requires c κs = search needs
 
 returns : tie.Need-returns
-returns c = rw (sym (c .before .before .is-board .ensures) ∙ c .before .if1 .taken, le-leb (c .before .before .before .args .e) (c .before .before .before .args .side) (omega arith))
+returns c =
+    let s = c .before .before .before in
+    rw (sym (c .before .before .is-board .ensures) ∙ c .before .if1 .taken, le-leb (s .args .e) (s .args .side) (omega arith))
 
 returns-2 : tie.Need-returns-2
-returns-2 c = rw (sym (c .before .before .is-board .ensures) ∙ c .before .if1 .taken, lt-leb (c .before .before .before .args .e) (c .before .before .before .args .side) (omega arith))
+returns-2 c =
+    let s = c .before .before .before in
+    rw (sym (c .before .before .is-board .ensures) ∙ c .before .if1 .taken, lt-leb (s .args .e) (s .args .side) (omega arith))
 
 returns-3 : tie.Need-returns-3
 returns-3 c = rw (sym (c .before .is-board .ensures) ∙ c .if1 .left)

@@ -20,7 +20,13 @@ same-length : tie.Need-same-length
 same-length c = search needs
 
 returns-2 : tie.Need-returns-2
-returns-2 c = ran-moved (c .before .before .before .before .before .before .before .args .side) (c .before .before .before .before .before .before .before .args .way) (c .before .before .before .before .before .before .before .args .joining) (c .before .before .before .before .before .before .before .args .e) (c .before .before .before .before .before .before .before .args .n) _ _ (sym (c .before .before .before .before .before .is-run .ensures) ∙ not-false _ (c .before .before .before .before .if1 .left)) (c .before .before .run-board .kept .0) (c .before .before .run-board .ensures)
+returns-2 c =
+    let r = c .before .before in
+    let i = r .before .before in
+    let i₂ = i .before in
+    let s = i₂ .before .before in
+    ran-moved (s .args .side) (s .args .way) (s .args .joining) (s .args .e) (s .args .n) _ _ (sym (i₂ .is-run .ensures) ∙ not-false _ (i .if1 .left))
+    (r .run-board .kept .0) (r .run-board .ensures)
 
 pub run-spec : {M : Type 1} → statement M
 run-spec = tie.close (tie.spec is-run-requires returns run-board-requires same-length returns-2)

@@ -37,7 +37,9 @@ wide-requires : tie.Need-wide-requires
 wide-requires c κs = search needs
 
 returns-2 : tie.Need-returns-2
-returns-2 c = c .wide .ensures ∙ c .before .before .before .before .pre .1 .0 .entry _ (omega (arith, ends _ _ _ (c .before .before .before .before .pre .0) (c .before .before .before .before .pre .1 .1)))
+returns-2 c =
+    let s = c .before .before .before .before in
+    c .wide .ensures ∙ s .pre .1 .0 .entry _ (omega (arith, ends _ _ _ (s .pre .0) (s .pre .1 .1)))
 
 pub across-spec : {M : Type 1} → statement M
 across-spec =

@@ -14,13 +14,19 @@ is-board-requires-2 : tie.Need-is-board-requires-2
 is-board-requires-2 c κs = search needs
 
 returns-2 : tie.Need-returns-2
-returns-2 c = rw (sym (c .before .before .before .is-board .ensures) ∙ not-false _ (c .before .before .if1 .left), sym (c .before .is-board2 .ensures) ∙ not-true _ (c .if2 .taken))
+returns-2 c =
+    let i = c .before .before .before in
+    rw (sym (i .is-board .ensures) ∙ not-false _ (c .before .before .if1 .left), sym (c .before .is-board2 .ensures) ∙ not-true _ (c .if2 .taken))
 
 is-board-requires-3 : tie.Need-is-board-requires-3
 is-board-requires-3 c κs = search needs
 
 returns-3 : tie.Need-returns-3
-returns-3 c = rw (sym (c .before .before .before .before .is-board .ensures) ∙ not-false _ (c .before .before .before .if1 .left), sym (c .before .before .is-board2 .ensures) ∙ not-false _ (c .before .if2 .left)) (c .is-board3 .ensures)
+returns-3 c =
+    let i = c .before .before .before in
+    let i₂ = i .before in
+    rw (sym (i₂ .is-board .ensures) ∙ not-false _ (i .if1 .left), sym (c .before .before .is-board2 .ensures) ∙ not-false _ (c .before .if2 .left))
+    (c .is-board3 .ensures)
 
 pub are-slots-spec : {M : Type 1} → statement M
 are-slots-spec =

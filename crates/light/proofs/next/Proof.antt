@@ -27,19 +27,31 @@ mul-groups : tie.Need-mul-groups
 mul-groups c = omega (arith, side-known (c .before .before .args .side) (c .before .before .pre .0) .groups-few)
 
 add-on : tie.Need-add-on
-add-on c = omega (arith, c .before .before .pre .1 .1 .1, partner-in (side-known (c .before .before .args .side) (c .before .before .pre .0) .least) (c .before .before .args .j) (c .before .before .pre .1 .1 .0), side-known (c .before .before .args .side) (c .before .before .pre .0) .cells-few, side-known (c .before .before .args .side) (c .before .before .pre .0) .groups-few)
+add-on c =
+    let s = c .before .before in
+    omega
+    (arith, s .pre .1 .1 .1, partner-in (side-known (s .args .side) (s .pre .0) .least) (s .args .j) (s .pre .1 .1 .0), side-known (s .args .side) (s .pre .0) .cells-few, side-known (s .args .side) (s .pre .0) .groups-few)
 
 mul-cells : tie.Need-mul-cells
 mul-cells c = omega (arith, side-known (c .before .before .args .side) (c .before .before .pre .0) .cells-few)
 
 add-result : tie.Need-add-result
-add-result c = omega (arith, c .before .before .before .pre .1 .1 .1, partner-in (side-known (c .before .before .before .args .side) (c .before .before .before .pre .0) .least) (c .before .before .before .args .j) (c .before .before .before .pre .1 .1 .0), side-known (c .before .before .before .args .side) (c .before .before .before .pre .0) .cells-few, side-known (c .before .before .before .args .side) (c .before .before .before .pre .0) .groups-few)
+add-result c =
+    let s = c .before .before .before in
+    omega
+    (arith, s .pre .1 .1 .1, partner-in (side-known (s .args .side) (s .pre .0) .least) (s .args .j) (s .pre .1 .1 .0), side-known (s .args .side) (s .pre .0) .cells-few, side-known (s .args .side) (s .pre .0) .groups-few)
 
 returns-2 : tie.Need-returns-2
-returns-2 c = omega (arith, c .before .before .before .pre .1 .1 .1, c .if2 .taken, partner-on (side-known (c .before .before .before .args .side) (c .before .before .before .pre .0)) (c .before .before .before .args .j) (c .before .before .before .pre .1 .1 .0) (omega (arith, c .before .before .before .pre .1 .1 .1, c .if2 .taken)))
+returns-2 c =
+    let s = c .before .before .before in
+    omega
+    (arith, s .pre .1 .1 .1, c .if2 .taken, partner-on (side-known (s .args .side) (s .pre .0)) (s .args .j) (s .pre .1 .1 .0) (omega (arith, s .pre .1 .1 .1, c .if2 .taken)))
 
 returns-3 : tie.Need-returns-3
-returns-3 c = omega (arith, c .before .before .before .pre .1 .1 .1, c .if2 .left, partner-over (side-known (c .before .before .before .args .side) (c .before .before .before .pre .0)) (c .before .before .before .args .j) (c .before .before .before .pre .1 .1 .0) (omega (arith, c .before .before .before .pre .1 .1 .1, c .if2 .left)))
+returns-3 c =
+    let s = c .before .before .before in
+    omega
+    (arith, s .pre .1 .1 .1, c .if2 .left, partner-over (side-known (s .args .side) (s .pre .0)) (s .args .j) (s .pre .1 .1 .0) (omega (arith, s .pre .1 .1 .1, c .if2 .left)))
 
 pub next-spec : {M : Type 1} → statement M
 next-spec =

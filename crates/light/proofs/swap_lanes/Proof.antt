@@ -22,7 +22,14 @@ slice-aggregate-trade-lanes : tie.Need-slice-aggregate-trade-lanes
 slice-aggregate-trade-lanes c = search needs
 
 trade-lanes-requires : tie.Need-trade-lanes-requires
-trade-lanes-requires c κs = (λ h. some-counted (c .before .before .before .before .before .before .before .before .before .before .before .are-lanes .result) (c .before .before .before .before .before .before .before .before .before .before .before .before .before .before .before .before .before .before .args .times) (c .before .before .before .before .before .before .before .before .before .before .counted .ensures) (c .before .before .before .before .before .before .before .before .before .before .before .are-lanes .ensures) h, listed-links _ _ (c .before .before .before .before .before .before .before .before .before .by-links .ensures (c .before .before .before .before .before .before .before .before .if1 .taken)) (c .before .before .before .before .before .before .before .links .ensures))
+trade-lanes-requires c κs =
+    let l = c .before .before .before .before .before .before .before in
+    let i = l .before in
+    let b = i .before in
+    let c₂ = b .before in
+    let a = c₂ .before in
+    let s = a .before .before .before .before .before .before .before in
+    (λ h. some-counted (a .are-lanes .result) (s .args .times) (c₂ .counted .ensures) (a .are-lanes .ensures) h, listed-links _ _ (b .by-links .ensures (i .if1 .taken)) (l .links .ensures))
 
 same-length : tie.Need-same-length
 same-length c = c .before .before .before .before .before .before .before .before .before .before .before .before .trade-lanes .kept .1 .1 .1 .0
@@ -40,10 +47,17 @@ same-length-5 : tie.Need-same-length-5
 same-length-5 c = c .before .before .before .before .before .before .before .before .before .before .before .before .trade-lanes .kept .1 .1 .1 .1 .1 .1 .1 .0
 
 same-length-6 : tie.Need-same-length-6
-same-length-6 c = c .before .before .before .before .before .before .before .before .before .before .before .before .trade-lanes .kept .1 .1 .1 .1 .1 .1 .1 .1 .0
+same-length-6 c =
+    let t = c .before .before .before .before .before .before .before .before .before .before .before .before in
+    t .trade-lanes .kept .1 .1 .1 .1 .1 .1 .1 .1 .0
 
 returns : tie.Need-returns
-returns c = swapped-counted (c .before .before .before .before .before .before .before .before .before .before .before .before .before .before .before .before .before .before .before .before .before .before .before .before .are-lanes .result) _ (c .before .before .before .before .before .before .before .before .before .before .before .before .before .before .before .before .before .before .before .before .before .before .before .before .before .before .before .before .before .before .before .args .times) (c .before .before .before .before .before .before .before .before .before .before .before .before .before .before .before .before .before .before .before .before .before .before .before .counted .ensures) (c .before .before .before .before .before .before .before .before .before .before .before .before .before .before .before .before .before .before .before .before .before .before .before .before .are-lanes .ensures) (c .before .before .before .before .before .before .before .before .before .before .before .before .trade-lanes .ensures)
+returns c =
+    let t = c .before .before .before .before .before .before .before .before .before .before .before .before in
+    let c₂ = t .before .before .before .before .before .before .before .before .before .before .before in
+    let a = c₂ .before in
+    let s = a .before .before .before .before .before .before .before in
+    swapped-counted (a .are-lanes .result) _ (s .args .times) (c₂ .counted .ensures) (a .are-lanes .ensures) (t .trade-lanes .ensures)
 
 array-share-prefix-none : tie.Need-array-share-prefix-none
 array-share-prefix-none c = search needs
@@ -52,7 +66,11 @@ slice-aggregate-trade-lanes-2 : tie.Need-slice-aggregate-trade-lanes-2
 slice-aggregate-trade-lanes-2 c = search needs
 
 trade-lanes-requires-2 : tie.Need-trade-lanes-requires-2
-trade-lanes-requires-2 c κs = (λ h. some-counted (c .before .before .before .before .before .before .before .before .before .before .are-lanes .result) (c .before .before .before .before .before .before .before .before .before .before .before .before .before .before .before .before .before .args .times) (c .before .before .before .before .before .before .before .before .before .counted .ensures) (c .before .before .before .before .before .before .before .before .before .before .are-lanes .ensures) h, listed-none (c .before .before .before .before .before .before .before .before .before .before .before .before .before .before .before .before .before .args .side))
+trade-lanes-requires-2 c κs =
+    let c₂ = c .before .before .before .before .before .before .before .before .before in
+    let a = c₂ .before in
+    let s = a .before .before .before .before .before .before .before in
+    (λ h. some-counted (a .are-lanes .result) (s .args .times) (c₂ .counted .ensures) (a .are-lanes .ensures) h, listed-none (s .args .side))
 
 same-length-7 : tie.Need-same-length-7
 same-length-7 c = c .before .before .before .before .before .before .before .before .before .before .before .before .trade-lanes2 .kept .1 .1 .1 .0
@@ -70,10 +88,17 @@ same-length-11 : tie.Need-same-length-11
 same-length-11 c = c .before .before .before .before .before .before .before .before .before .before .before .before .trade-lanes2 .kept .1 .1 .1 .1 .1 .1 .1 .0
 
 same-length-12 : tie.Need-same-length-12
-same-length-12 c = c .before .before .before .before .before .before .before .before .before .before .before .before .trade-lanes2 .kept .1 .1 .1 .1 .1 .1 .1 .1 .0
+same-length-12 c =
+    let t = c .before .before .before .before .before .before .before .before .before .before .before .before in
+    t .trade-lanes2 .kept .1 .1 .1 .1 .1 .1 .1 .1 .0
 
 returns-2 : tie.Need-returns-2
-returns-2 c = swapped-counted (c .before .before .before .before .before .before .before .before .before .before .before .before .before .before .before .before .before .before .before .before .before .before .before .are-lanes .result) _ (c .before .before .before .before .before .before .before .before .before .before .before .before .before .before .before .before .before .before .before .before .before .before .before .before .before .before .before .before .before .before .args .times) (c .before .before .before .before .before .before .before .before .before .before .before .before .before .before .before .before .before .before .before .before .before .before .counted .ensures) (c .before .before .before .before .before .before .before .before .before .before .before .before .before .before .before .before .before .before .before .before .before .before .before .are-lanes .ensures) (c .before .before .before .before .before .before .before .before .before .before .before .before .trade-lanes2 .ensures)
+returns-2 c =
+    let t = c .before .before .before .before .before .before .before .before .before .before .before .before in
+    let c₂ = t .before .before .before .before .before .before .before .before .before .before in
+    let a = c₂ .before in
+    let s = a .before .before .before .before .before .before .before in
+    swapped-counted (a .are-lanes .result) _ (s .args .times) (c₂ .counted .ensures) (a .are-lanes .ensures) (t .trade-lanes2 .ensures)
 
 pub swap-lanes-spec : {M : Type 1} → statement M
 swap-lanes-spec =

@@ -11,7 +11,9 @@ is-board-requires : tie.Need-is-board-requires
 is-board-requires c κs = search needs
 
 returns : tie.Need-returns
-returns c = not-swapped (c .before .before .before .args .side) (c .before .before .before .args .lane .now) (sym (c .before .is-board .ensures) ∙ not-true _ (c .if1 .taken))
+returns c =
+    let s = c .before .before .before in
+    not-swapped (s .args .side) (s .args .lane .now) (sym (c .before .is-board .ensures) ∙ not-true _ (c .if1 .taken))
 
 links-requires : tie.Need-links-requires
 links-requires c κs = search needs
@@ -20,7 +22,11 @@ slice-aggregate-trade-words : tie.Need-slice-aggregate-trade-words
 slice-aggregate-trade-words c = search needs
 
 trade-words-requires : tie.Need-trade-words-requires
-trade-words-requires c κs = (sym (c .before .before .before .before .before .is-board .ensures) ∙ not-false _ (c .before .before .before .before .if1 .left), listed-links _ _ (c .before .before .before .if2 .taken) (c .before .before .links .ensures))
+trade-words-requires c κs =
+    let i = c .before .before .before in
+    let i₂ = i .before in
+    let i₃ = i₂ .before in
+    (sym (i₃ .is-board .ensures) ∙ not-false _ (i₂ .if1 .left), listed-links _ _ (i .if2 .taken) (c .before .before .links .ensures))
 
 same-length : tie.Need-same-length
 same-length c = search needs
@@ -35,7 +41,11 @@ slice-aggregate-trade-words-2 : tie.Need-slice-aggregate-trade-words-2
 slice-aggregate-trade-words-2 c = search needs
 
 trade-words-requires-2 : tie.Need-trade-words-requires-2
-trade-words-requires-2 c κs = (sym (c .before .before .before .before .is-board .ensures) ∙ not-false _ (c .before .before .before .if1 .left), listed-none (c .before .before .before .before .before .before .args .side))
+trade-words-requires-2 c κs =
+    let i = c .before .before .before in
+    let i₂ = i .before in
+    let s = i₂ .before .before in
+    (sym (i₂ .is-board .ensures) ∙ not-false _ (i .if1 .left), listed-none (s .args .side))
 
 same-length-2 : tie.Need-same-length-2
 same-length-2 c = search needs

@@ -14,10 +14,16 @@ abbrev μ-loop : tie.MeasureT-loop
 μ-loop side list g lane₀ groups p₀ lane p = groups - p
 
 mul-groups : tie.Need-mul-groups Inv-loop μ-loop
-mul-groups c = omega (arith, ends (c .before .before .args .side) (c .before .before .args .g) (c .before .before .args .g) (board-side (c .before .before .args .side) (length (c .before .before .args .lane .now)) (c .before .before .pre .0)) (c .before .before .pre .1 .1, c .before .before .pre .1 .1))
+mul-groups c =
+    let s = c .before .before in
+    omega
+    (arith, ends (s .args .side) (s .args .g) (s .args .g) (board-side (s .args .side) (length (s .args .lane .now)) (s .pre .0)) (s .pre .1 .1, s .pre .1 .1))
 
 add-p : tie.Need-add-p Inv-loop μ-loop
-add-p c = omega (arith, ends (c .before .before .args .side) (c .before .before .args .g) (c .before .before .args .g) (board-side (c .before .before .args .side) (length (c .before .before .args .lane .now)) (c .before .before .pre .0)) (c .before .before .pre .1 .1, c .before .before .pre .1 .1))
+add-p c =
+    let s = c .before .before in
+    omega
+    (arith, ends (s .args .side) (s .args .g) (s .args .g) (board-side (s .args .side) (length (s .args .lane .now)) (s .pre .0)) (s .pre .1 .1, s .pre .1 .1))
 
 loop-holds : tie.Need-loop-holds Inv-loop μ-loop
 loop-holds c = trades-start (c .before .before .pre .0) (c .before .before .pre .1 .1)
@@ -29,34 +35,57 @@ add-j : tie.Need-add-j Inv-loop μ-loop
 add-j c = omega (arith, trades-ends (c .before .loop .inv) (c .loop-test .taken))
 
 across-requires : tie.Need-across-requires Inv-loop μ-loop
-across-requires c κs = (board-side (c .before .before .before .before .args .side) (length (c .before .before .before .before .args .lane .now)) (c .before .before .before .before .pre .0), (c .before .before .before .before .pre .1 .0, (c .before .before .before .before .pre .1 .1, c .loop-test .taken)))
+across-requires c κs =
+    let s = c .before .before .before .before in
+    (board-side (s .args .side) (length (s .args .lane .now)) (s .pre .0), (s .pre .1 .0, (s .pre .1 .1, c .loop-test .taken)))
 
 mul-word : tie.Need-mul-word Inv-loop μ-loop
 mul-word c = omega (arith, trades-ends (c .before .before .loop .inv) (c .before .loop-test .taken))
 
 slice-read-word : tie.Need-slice-read-word Inv-loop μ-loop
-slice-read-word c = omega (arith, c .before .before .before .loop .inv .long, trades-ends (c .before .before .before .loop .inv) (c .before .before .loop-test .taken))
+slice-read-word c =
+    let l = c .before .before .before in
+    omega (arith, l .loop .inv .long, trades-ends (l .loop .inv) (c .before .before .loop-test .taken))
 
 mul-lane : tie.Need-mul-lane Inv-loop μ-loop
-mul-lane c = omega (arith, trades-ends (c .before .before .before .loop .inv) (c .before .before .loop-test .taken), trades-other (c .before .before .before .loop .inv) _ (c .before .before .loop-test .taken) (c .before .across .ensures))
+mul-lane c =
+    let l = c .before .before in
+    let l₂ = l .before in
+    omega (arith, trades-ends (l₂ .loop .inv) (l .loop-test .taken), trades-other (l₂ .loop .inv) _ (l .loop-test .taken) (c .before .across .ensures))
 
 slice-read-lane : tie.Need-slice-read-lane Inv-loop μ-loop
-slice-read-lane c = omega (arith, c .before .before .before .before .loop .inv .long, trades-other (c .before .before .before .before .loop .inv) _ (c .before .before .before .loop-test .taken) (c .before .before .across .ensures))
+slice-read-lane c =
+    let l = c .before .before .before in
+    let l₂ = l .before in
+    omega (arith, l₂ .loop .inv .long, trades-other (l₂ .loop .inv) _ (l .loop-test .taken) (c .before .before .across .ensures))
 
 mul-lane-2 : tie.Need-mul-lane-2 Inv-loop μ-loop
 mul-lane-2 c = omega (arith, trades-ends (c .before .before .before .before .loop .inv) (c .before .before .before .loop-test .taken))
 
 slice-write-lane : tie.Need-slice-write-lane Inv-loop μ-loop
-slice-write-lane c = omega (arith, c .before .before .before .before .loop .inv .long, trades-ends (c .before .before .before .before .loop .inv) (c .before .before .before .loop-test .taken))
+slice-write-lane c =
+    let l = c .before .before .before in
+    let l₂ = l .before in
+    omega (arith, l₂ .loop .inv .long, trades-ends (l₂ .loop .inv) (l .loop-test .taken))
 
 mul-lane-3 : tie.Need-mul-lane-3 Inv-loop μ-loop
-mul-lane-3 c = omega (arith, trades-ends (c .before .before .before .before .loop .inv) (c .before .before .before .loop-test .taken), trades-other (c .before .before .before .before .loop .inv) _ (c .before .before .before .loop-test .taken) (c .before .before .across .ensures))
+mul-lane-3 c =
+    let l = c .before .before .before in
+    let l₂ = l .before in
+    omega (arith, trades-ends (l₂ .loop .inv) (l .loop-test .taken), trades-other (l₂ .loop .inv) _ (l .loop-test .taken) (c .before .before .across .ensures))
 
 slice-write-lane-2 : tie.Need-slice-write-lane-2 Inv-loop μ-loop
-slice-write-lane-2 c = simp length-set (omega (arith, c .before .before .before .before .loop .inv .long, trades-ends (c .before .before .before .before .loop .inv) (c .before .before .before .loop-test .taken), trades-other (c .before .before .before .before .loop .inv) _ (c .before .before .before .loop-test .taken) (c .before .before .across .ensures)))
+slice-write-lane-2 c =
+    let l = c .before .before .before in
+    let l₂ = l .before in
+    simp length-set
+    (omega (arith, l₂ .loop .inv .long, trades-ends (l₂ .loop .inv) (l .loop-test .taken), trades-other (l₂ .loop .inv) _ (l .loop-test .taken) (c .before .before .across .ensures)))
 
 add-p-2 : tie.Need-add-p-2 Inv-loop μ-loop
-add-p-2 c = omega (arith, c .before .before .before .loop-test .taken, trades-ends (c .before .before .before .before .loop .inv) (c .before .before .before .loop-test .taken))
+add-p-2 c =
+    let l = c .before .before .before in
+    let l₂ = l .before in
+    omega (arith, l .loop-test .taken, trades-ends (l₂ .loop .inv) (l .loop-test .taken))
 
 loop-less : tie.Need-loop-less Inv-loop μ-loop
 loop-less c = omega (arith, c .before .before .before .loop-test .taken)

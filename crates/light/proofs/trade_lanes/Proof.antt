@@ -8,10 +8,14 @@ use Rattle.light.proofs.trade_lanes.Statement.{statement}
 use Rattle.light.proofs.trade_lanes.Tie as tie
 
 trade-times-requires : tie.Need-trade-times-requires
-trade-times-requires c κs = let s = c .before .before .before .before .before .before .before .before .before .before .pre in (λ h. both-left _ _ (s .0 h), s .1)
+trade-times-requires c κs =
+    let s₂ = c .before .before .before .before .before .before .before .before .before .before in
+    let s = s₂ .pre in (λ h. both-left _ _ (s .0 h), s .1)
 
 trade-times-requires-2 : tie.Need-trade-times-requires-2
-trade-times-requires-2 c κs = let s = c .before .before .before .before .before .before .before .before .before .before .before .before .before .before .before .before .before .before .before .before in
+trade-times-requires-2 c κs =
+    let b = c .before .before .before .before .before .before .before .before .before .before .before .before .before .before .before .before .before .before .before in
+    let s = b .before in
     let a = s .args in
     (λ h. both-right (areSlots (a .side) (length (a .words .now)) (length (a .marks .now)) (length (a .aims .now))) _ (s .pre .0 h), s .pre .1)
 
@@ -37,7 +41,10 @@ same-length-6 : tie.Need-same-length-6
 same-length-6 c = search needs
 
 returns : tie.Need-returns
-returns c = both-swapped (c .before .before .before .before .before .before .before .before .before .before .before .before .before .before .before .before .trade-times .ensures) (c .before .before .before .before .before .before .trade-times2 .ensures) refl
+returns c =
+    let t = c .before .before .before .before .before .before in
+    let t₂ = t .before .before .before .before .before .before .before .before .before .before in
+    both-swapped (t₂ .trade-times .ensures) (t .trade-times2 .ensures) refl
 
 pub trade-lanes-spec : {M : Type 1} → statement M
 trade-lanes-spec =

@@ -35,10 +35,15 @@ same-length-3 : tie.Need-same-length-3
 same-length-3 c = search needs
 
 returns-2 : tie.Need-returns-2
-returns-2 c = let x = c .before .before .before .before .before .before .exchange .ensures in
-    let y = c .before .before .before .before .before .before .before .before .before .before .before .before .one .ensures in
-    let z = c .before .before .before .before .before .before .before .before .before .before .one2 .ensures in
-    traded-some (c .before .before .before .before .before .before .before .before .before .before .before .before .before .before .if1 .left) (y .0) (z .0) (y .1) (z .1) refl (x .0) (x .1 .0) (x .1 .1)
+returns-2 c =
+    let e = c .before .before .before .before .before .before in
+    let o = e .before .before .before .before in
+    let o₂ = o .before .before in
+    let i = o₂ .before .before in
+    let x = e .exchange .ensures in
+    let y = o₂ .one .ensures in
+    let z = o .one2 .ensures in
+    traded-some (i .if1 .left) (y .0) (z .0) (y .1) (z .1) refl (x .0) (x .1 .0) (x .1 .1)
 
 pub trade-slot-spec : {M : Type 1} → statement M
 trade-slot-spec =

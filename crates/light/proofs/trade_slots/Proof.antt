@@ -27,21 +27,36 @@ trade-slot-requires c κs = let z = c .before .before .before .before .loop .inv
     ((omega (arith, w, l), (omega (arith, m, l), omega (arith, a, l))), (omega (arith, w, u), (omega (arith, m, u), omega (arith, a, u))))
 
 add-moved : tie.Need-add-moved Inv-loop μ-loop
-add-moved c = omega (arith, c .before .before .before .before .before .before .before .before .before .before .before .loop .inv .few, c .before .before .before .before .before .before .trade-slot .ensures .few, turning-few (c .before .before .before .before .before .before .before .before .before .before .before .loop .inv .lanes .words), c .before .before .before .before .before .before .before .before .before .before .loop-test .taken)
+add-moved c =
+    let t = c .before .before .before .before .before .before in
+    let l = t .before .before .before .before in
+    let l₂ = l .before in
+    omega (arith, l₂ .loop .inv .few, t .trade-slot .ensures .few, turning-few (l₂ .loop .inv .lanes .words), l .loop-test .taken)
 
 next-requires : tie.Need-next-requires Inv-loop μ-loop
-next-requires c κs = let z = c .before .before .before .before .before .before .before .before .before .before .before .loop .inv .lanes .words in
-    let s = c .before .before .before .before .before .before .before .before .before .before .before .before .before .before .before .before in
-    (board-side (s .args .side) (length (s .args .words .now)) (z .board), (s .pre .1, (turning-inside z (c .before .before .before .before .before .before .before .before .before .before .loop-test .taken), z .is)))
+next-requires c κs =
+    let l = c .before .before .before .before .before .before .before .before .before .before in
+    let l₂ = l .before in
+    let b = l₂ .before .before .before .before in
+    let z = l₂ .loop .inv .lanes .words in
+    let s = b .before in
+    (board-side (s .args .side) (length (s .args .words .now)) (z .board), (s .pre .1, (turning-inside z (l .loop-test .taken), z .is)))
 
 add-j : tie.Need-add-j Inv-loop μ-loop
-add-j c = omega (arith, turning-few (c .before .before .before .before .before .before .before .before .before .before .before .before .loop .inv .lanes .words), c .before .before .before .before .before .before .before .before .before .before .before .loop-test .taken)
+add-j c =
+    let l = c .before .before .before .before .before .before .before .before .before .before .before in
+    let l₂ = l .before in
+    omega (arith, turning-few (l₂ .loop .inv .lanes .words), l .loop-test .taken)
 
 loop-less : tie.Need-loop-less Inv-loop μ-loop
 loop-less c = omega (arith, c .before .before .before .before .before .before .before .before .before .before .before .loop-test .taken)
 
 loop-again : tie.Need-loop-again Inv-loop μ-loop
-loop-again c = walking-step (c .before .before .before .before .before .before .before .before .before .before .before .before .loop .inv) (c .before .before .before .before .before .before .before .before .before .before .before .loop-test .taken) (c .next .ensures) (c .before .before .before .before .before .before .before .trade-slot .ensures) refl
+loop-again c =
+    let t = c .before .before .before .before .before .before .before in
+    let l = t .before .before .before .before in
+    let l₂ = l .before in
+    walking-step (l₂ .loop .inv) (l .loop-test .taken) (c .next .ensures) (t .trade-slot .ensures) refl
 
 same-length : tie.Need-same-length Inv-loop μ-loop
 same-length c = let z = c .before .loop .inv .lanes .words in turning-long z ∙ sym (z .long)

@@ -24,16 +24,24 @@ trade-slots-requires c κs = let s = c .before .before .before .before .before .
     (times-board (s .0 (omega (arith, h))) (c .before .before .before .before .loop .inv .4), s .1)
 
 add-j : tie.Need-add-j Inv-loop μ-loop
-add-j c = omega (arith, c .before .before .before .before .before .before .before .before .before .before .loop-test .taken, c .before .before .before .before .before .before .before .before .before .before .before .before .before .before .before .before)
+add-j c =
+    let l = c .before .before .before .before .before .before .before .before .before .before in
+    let b = l .before .before .before .before .before in
+    omega (arith, l .loop-test .taken, b .before)
 
 loop-less : tie.Need-loop-less Inv-loop μ-loop
 loop-less c = omega (arith, c .before .before .before .before .before .before .before .before .before .before .loop-test .taken)
 
 loop-again : tie.Need-loop-again Inv-loop μ-loop
-loop-again c = let i = c .before .before .before .before .before .before .before .before .before .before .before .loop .inv in
-    let h = c .before .before .before .before .before .before .before .before .before .before .loop-test .taken in
-    let y = c .before .before .before .before .before .before .trade-slots in
-    (omega (arith, h), omega (arith, i .1, y .kept), omega (arith, i .2, y .kept), omega (arith, i .3, y .kept), times-next (c .before .before .before .before .before .before .before .before .before .before .before .before .before .before .before .before .pre .0 (omega (arith, h))) (i .4) (y .ensures))
+loop-again c =
+    let t = c .before .before .before .before .before .before in
+    let l = t .before .before .before .before in
+    let l₂ = l .before in
+    let s = l₂ .before .before .before .before .before in
+    let i = l₂ .loop .inv in
+    let h = l .loop-test .taken in
+    let y = t .trade-slots in
+    (omega (arith, h), omega (arith, i .1, y .kept), omega (arith, i .2, y .kept), omega (arith, i .3, y .kept), times-next (s .pre .0 (omega (arith, h))) (i .4) (y .ensures))
 
 same-length : tie.Need-same-length Inv-loop μ-loop
 same-length c = c .before .loop .inv .1

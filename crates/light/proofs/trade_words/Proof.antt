@@ -23,13 +23,19 @@ trade-group-requires : tie.Need-trade-group-requires Inv-loop μ-loop
 trade-group-requires c κs = (rounds-board (c .before .before .loop .inv), (c .before .before .before .before .before .pre .1, c .before .loop-test .taken))
 
 add-g : tie.Need-add-g Inv-loop μ-loop
-add-g c = omega (arith, c .before .before .before .before .loop-test .taken, board-known (c .before .before .before .before .before .before .before .before .args .side) (length (c .before .before .before .before .before .before .before .before .args .lane .now)) (c .before .before .before .before .before .before .before .before .pre .0) .groups-few)
+add-g c =
+    let l = c .before .before .before .before in
+    let s = l .before .before .before .before in
+    omega (arith, l .loop-test .taken, board-known (s .args .side) (length (s .args .lane .now)) (s .pre .0) .groups-few)
 
 loop-less : tie.Need-loop-less Inv-loop μ-loop
 loop-less c = omega (arith, c .before .before .before .before .loop-test .taken)
 
 loop-again : tie.Need-loop-again Inv-loop μ-loop
-loop-again c = rounds-turn (c .before .before .before .before .before .loop .inv) (c .before .before .before .before .loop-test .taken) (c .before .before .trade-group .ensures)
+loop-again c =
+    let l = c .before .before .before .before in
+    let l₂ = l .before in
+    rounds-turn (l₂ .loop .inv) (l .loop-test .taken) (c .before .before .trade-group .ensures)
 
 same-length : tie.Need-same-length Inv-loop μ-loop
 same-length c = rounds-long (c .before .loop .inv)

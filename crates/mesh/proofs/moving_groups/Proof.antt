@@ -10,7 +10,9 @@ returns : tie.Need-returns
 returns c = let s = c .before .before in sym (rw (eq-eqb (s .args .t .made) 0 (c .if1 .taken)))
 
 mul-result : tie.Need-mul-result
-mul-result c = let h = c .before .before .before .pre in let z : c .before .before .before .args .t .side * c .before .before .before .args .t .side ≤ 8 * 8 = mul-le-mul h h in omega arith
+mul-result c =
+    let s = c .before .before .before in
+    let h = s .pre in let z : s .args .t .side * s .args .t .side ≤ 8 * 8 = mul-le-mul h h in omega arith
 
 returns-2 : tie.Need-returns-2
 returns-2 c = let s = c .before .before .before in sym (rw (ne-eqb (s .args .t .made) 0 (c .before .if1 .left)))

@@ -18,7 +18,10 @@ least-requires : tie.Need-least-requires
 least-requires c κs = search needs
 
 returns : tie.Need-returns
-returns c = rw (c .least .ensures, c .before .goes-down .ensures, c .before .before .goes-up .ensures, c .before .before .before .unit .ensures, c .before .before .before .before .stride .ensures .0)
+returns c =
+    let u = c .before .before .before in
+    let s = u .before in
+    rw (c .least .ensures, c .before .goes-down .ensures, c .before .before .goes-up .ensures, u .unit .ensures, s .stride .ensures .0)
 
 pub rule-of-spec : {M : Type 1} → statement M
 rule-of-spec =

@@ -66,68 +66,123 @@ slice-aggregate-run-part : tie.Need-slice-aggregate-run-part Inv-loop μ-loop
 slice-aggregate-run-part c = search needs
 
 run-part-requires : tie.Need-run-part-requires Inv-loop μ-loop
-run-part-requires c κs = let l = c .before .before .before .before .before .before .before .before .loop in
+run-part-requires c κs =
+    let l₂ = c .before .before .before .before .before .before .before in
+    let l₃ = l₂ .before in
+    let r = l₃ .before .before .before .before in
+    let l = l₃ .loop in
     let i = l .inv in
     let k = known (i .2) in
-    let f = part-fits (groupsOf (c .before .before .before .before .before .before .before .before .before .before .before .before .rule-of .result .side)) (l .g) (l .base) (moving-few (c .before .before .before .before .before .before .before .before .before .before .before .before .rule-of .result) (i .1) (c .before .before .before .before .before .before .before .loop-test .taken)) (i .5 .upto) in
+    let f = part-fits (groupsOf (r .rule-of .result .side)) (l .g) (l .base) (moving-few (r .rule-of .result) (i .1) (l₂ .loop-test .taken)) (i .5 .upto) in
     ((i .2, i .3), (record { long = i .5 .long; room = λ d h. omega (arith, ranged-few (omega (arith, f, k .cells-few)) (i .5) d h) }, (f, ((l .g, i .5 .upto), i .4))))
 
 add-base : tie.Need-add-base Inv-loop μ-loop
-add-base c = let l = c .before .before .before .before .before .before .before .before .before .before .before .before .before .before .before .before .before .before .before .before .before .before .loop in
+add-base c =
+    let l₂ = c .before .before .before .before .before .before .before .before .before .before .before .before .before .before .before .before .before .before .before .before .before in
+    let l₃ = l₂ .before in
+    let r = l₃ .before .before .before .before in
+    let l = l₃ .loop in
     let i = l .inv in
-    omega (arith, part-fits (groupsOf (c .before .before .before .before .before .before .before .before .before .before .before .before .before .before .before .before .before .before .before .before .before .before .before .before .before .before .rule-of .result .side)) (l .g) (l .base) (moving-few (c .before .before .before .before .before .before .before .before .before .before .before .before .before .before .before .before .before .before .before .before .before .before .before .before .before .before .rule-of .result) (i .1) (c .before .before .before .before .before .before .before .before .before .before .before .before .before .before .before .before .before .before .before .before .before .loop-test .taken)) (i .5 .upto), known (i .2) .cells-few, i .0)
+    omega
+    (arith, part-fits (groupsOf (r .rule-of .result .side)) (l .g) (l .base) (moving-few (r .rule-of .result) (i .1) (l₂ .loop-test .taken)) (i .5 .upto), known (i .2) .cells-few, i .0)
 
 add-g : tie.Need-add-g Inv-loop μ-loop
-add-g c = let i = c .before .before .before .before .before .before .before .before .before .before .before .before .before .before .before .before .before .before .before .before .before .before .loop .inv in omega (arith, moving-few (c .before .before .before .before .before .before .before .before .before .before .before .before .before .before .before .before .before .before .before .before .before .before .before .before .before .before .rule-of .result) (i .1) (c .before .before .before .before .before .before .before .before .before .before .before .before .before .before .before .before .before .before .before .before .before .loop-test .taken), known (i .2) .groups-few)
+add-g c =
+    let l = c .before .before .before .before .before .before .before .before .before .before .before .before .before .before .before .before .before .before .before .before .before in
+    let l₂ = l .before in
+    let r = l₂ .before .before .before .before in
+    let i = l₂ .loop .inv in omega (arith, moving-few (r .rule-of .result) (i .1) (l .loop-test .taken), known (i .2) .groups-few)
 
 loop-less : tie.Need-loop-less Inv-loop μ-loop
-loop-less c = omega (arith, c .before .before .before .before .before .before .before .before .before .before .before .before .before .before .before .before .before .before .before .before .before .loop-test .taken)
+loop-less c =
+    let l = c .before .before .before .before .before .before .before .before .before .before .before .before .before .before .before .before .before .before .before .before .before in
+    omega (arith, l .loop-test .taken)
 
 loop-again : tie.Need-loop-again Inv-loop μ-loop
-loop-again c = let i = c .before .before .before .before .before .before .before .before .before .before .before .before .before .before .before .before .before .before .before .before .before .before .loop .inv in
-    let y = c .before .before .before .before .before .before .before .before .before .before .before .before .before .run-part in
-    let z = ranged-step (known (i .2) .least) (i .3) (moving-few (c .before .before .before .before .before .before .before .before .before .before .before .before .before .before .before .before .before .before .before .before .before .before .before .before .before .before .rule-of .result) (i .1) (c .before .before .before .before .before .before .before .before .before .before .before .before .before .before .before .before .before .before .before .before .before .loop-test .taken)) (i .5) refl (omega (arith, i .5 .long, y .kept)) (y .ensures) in
+loop-again c =
+    let r = c .before .before .before .before .before .before .before .before .before .before .before .before .before in
+    let l = r .before .before .before .before .before .before .before .before in
+    let l₂ = l .before in
+    let r₂ = l₂ .before .before .before .before in
+    let i = l₂ .loop .inv in
+    let y = r .run-part in
+    let z = ranged-step (known (i .2) .least) (i .3) (moving-few (r₂ .rule-of .result) (i .1) (l .loop-test .taken)) (i .5) refl (omega (arith, i .5 .long, y .kept)) (y .ensures) in
     (i .0, i .1, i .2, i .3, omega (arith, i .4, y .kept), rw (i .0) z)
 
 same-length : tie.Need-same-length Inv-loop μ-loop
-same-length c = let a = c .before .before .before .before .before .before .before .before .before .before .before .before .before .before .args in
-    let e = sym (c .before .before .before .before .before .before .before .are-lanes .ensures) ∙ not-false _ (c .before .before .before .before .before .before .if1 .left) in
+same-length c =
+    let r = c .before .before .before .before .before in
+    let i = r .before in
+    let a₂ = i .before in
+    let s = a₂ .before .before .before .before .before .before .before in
+    let a = s .args in
+    let e = sym (a₂ .are-lanes .ensures) ∙ not-false _ (i .if1 .left) in
     let k = lanes-known (a .leg .side) (a .words .now) (a .marks .now) (a .aims .now) (a .spare-words .now) (a .spare-marks .now) (a .spare-aims .now) e in
-    c .before .loop .inv .4 .words ∙ sym (rw (c .before .before .before .before .before .rule-of .ensures) (k .sized .words))
+    c .before .loop .inv .4 .words ∙ sym (rw (r .rule-of .ensures) (k .sized .words))
 
 same-length-2 : tie.Need-same-length-2 Inv-loop μ-loop
-same-length-2 c = let a = c .before .before .before .before .before .before .before .before .before .before .before .before .before .before .args in
-    let e = sym (c .before .before .before .before .before .before .before .are-lanes .ensures) ∙ not-false _ (c .before .before .before .before .before .before .if1 .left) in
+same-length-2 c =
+    let r = c .before .before .before .before .before in
+    let i = r .before in
+    let a₂ = i .before in
+    let s = a₂ .before .before .before .before .before .before .before in
+    let a = s .args in
+    let e = sym (a₂ .are-lanes .ensures) ∙ not-false _ (i .if1 .left) in
     let k = lanes-known (a .leg .side) (a .words .now) (a .marks .now) (a .aims .now) (a .spare-words .now) (a .spare-marks .now) (a .spare-aims .now) e in
-    c .before .loop .inv .4 .marks ∙ sym (rw (c .before .before .before .before .before .rule-of .ensures) (k .sized .marks))
+    c .before .loop .inv .4 .marks ∙ sym (rw (r .rule-of .ensures) (k .sized .marks))
 
 same-length-3 : tie.Need-same-length-3 Inv-loop μ-loop
-same-length-3 c = let a = c .before .before .before .before .before .before .before .before .before .before .before .before .before .before .args in
-    let e = sym (c .before .before .before .before .before .before .before .are-lanes .ensures) ∙ not-false _ (c .before .before .before .before .before .before .if1 .left) in
+same-length-3 c =
+    let r = c .before .before .before .before .before in
+    let i = r .before in
+    let a₂ = i .before in
+    let s = a₂ .before .before .before .before .before .before .before in
+    let a = s .args in
+    let e = sym (a₂ .are-lanes .ensures) ∙ not-false _ (i .if1 .left) in
     let k = lanes-known (a .leg .side) (a .words .now) (a .marks .now) (a .aims .now) (a .spare-words .now) (a .spare-marks .now) (a .spare-aims .now) e in
-    c .before .loop .inv .4 .aims ∙ sym (rw (c .before .before .before .before .before .rule-of .ensures) (k .sized .aims))
+    c .before .loop .inv .4 .aims ∙ sym (rw (r .rule-of .ensures) (k .sized .aims))
 
 same-length-4 : tie.Need-same-length-4 Inv-loop μ-loop
-same-length-4 c = let a = c .before .before .before .before .before .before .before .before .before .before .before .before .before .before .args in
-    let e = sym (c .before .before .before .before .before .before .before .are-lanes .ensures) ∙ not-false _ (c .before .before .before .before .before .before .if1 .left) in
+same-length-4 c =
+    let r = c .before .before .before .before .before in
+    let i = r .before in
+    let a₂ = i .before in
+    let s = a₂ .before .before .before .before .before .before .before in
+    let a = s .args in
+    let e = sym (a₂ .are-lanes .ensures) ∙ not-false _ (i .if1 .left) in
     let k = lanes-known (a .leg .side) (a .words .now) (a .marks .now) (a .aims .now) (a .spare-words .now) (a .spare-marks .now) (a .spare-aims .now) e in
-    c .before .loop .inv .4 .words2 ∙ sym (rw (c .before .before .before .before .before .rule-of .ensures) (k .sized .words2))
+    c .before .loop .inv .4 .words2 ∙ sym (rw (r .rule-of .ensures) (k .sized .words2))
 
 same-length-5 : tie.Need-same-length-5 Inv-loop μ-loop
-same-length-5 c = let a = c .before .before .before .before .before .before .before .before .before .before .before .before .before .before .args in
-    let e = sym (c .before .before .before .before .before .before .before .are-lanes .ensures) ∙ not-false _ (c .before .before .before .before .before .before .if1 .left) in
+same-length-5 c =
+    let r = c .before .before .before .before .before in
+    let i = r .before in
+    let a₂ = i .before in
+    let s = a₂ .before .before .before .before .before .before .before in
+    let a = s .args in
+    let e = sym (a₂ .are-lanes .ensures) ∙ not-false _ (i .if1 .left) in
     let k = lanes-known (a .leg .side) (a .words .now) (a .marks .now) (a .aims .now) (a .spare-words .now) (a .spare-marks .now) (a .spare-aims .now) e in
-    c .before .loop .inv .4 .marks2 ∙ sym (rw (c .before .before .before .before .before .rule-of .ensures) (k .sized .marks2))
+    c .before .loop .inv .4 .marks2 ∙ sym (rw (r .rule-of .ensures) (k .sized .marks2))
 
 same-length-6 : tie.Need-same-length-6 Inv-loop μ-loop
-same-length-6 c = let a = c .before .before .before .before .before .before .before .before .before .before .before .before .before .before .args in
-    let e = sym (c .before .before .before .before .before .before .before .are-lanes .ensures) ∙ not-false _ (c .before .before .before .before .before .before .if1 .left) in
+same-length-6 c =
+    let r = c .before .before .before .before .before in
+    let i = r .before in
+    let a₂ = i .before in
+    let s = a₂ .before .before .before .before .before .before .before in
+    let a = s .args in
+    let e = sym (a₂ .are-lanes .ensures) ∙ not-false _ (i .if1 .left) in
     let k = lanes-known (a .leg .side) (a .words .now) (a .marks .now) (a .aims .now) (a .spare-words .now) (a .spare-marks .now) (a .spare-aims .now) e in
-    c .before .loop .inv .4 .aims2 ∙ sym (rw (c .before .before .before .before .before .rule-of .ensures) (k .sized .aims2))
+    c .before .loop .inv .4 .aims2 ∙ sym (rw (r .rule-of .ensures) (k .sized .aims2))
 
 returns-2 : tie.Need-returns-2 Inv-loop μ-loop
-returns-2 c = let i = c .before .loop .inv in
-    ranged-end (sym (c .before .before .before .before .before .before .before .are-lanes .ensures) ∙ not-false _ (c .before .before .before .before .before .before .if1 .left)) (c .before .before .before .before .before .rule-of .ensures) (known (i .2) .least) (i .2 .stride) (i .1) (c .loop-test .left) (i .5)
+returns-2 c =
+    let r = c .before .before .before .before .before in
+    let i₂ = r .before in
+    let a = i₂ .before in
+    let i = c .before .loop .inv in
+    ranged-end (sym (a .are-lanes .ensures) ∙ not-false _ (i₂ .if1 .left)) (r .rule-of .ensures) (known (i .2) .least) (i .2 .stride) (i .1)
+    (c .loop-test .left) (i .5)
 
 pub run-all-spec : {M : Type 1} → statement M
 run-all-spec =

@@ -24,7 +24,9 @@ line-step-requires : tie.Need-line-step-requires Inv-loop μ-loop
 line-step-requires c κs = tt
 
 loop-holds : tie.Need-loop-holds Inv-loop μ-loop
-loop-holds c = let s = c .before .before .before .before .before .before .before .before in (s .pre .1 .1 .words, c .line-step .ensures, rw (s .pre .1 .1 .words) (s .pre .1 .1), lined-start _ _ (s .pre .1 .0 .long))
+loop-holds c =
+    let b = c .before .before .before .before .before .before .before in
+    let s = b .before in (s .pre .1 .1 .words, c .line-step .ensures, rw (s .pre .1 .1 .words) (s .pre .1 .1), lined-start _ _ (s .pre .1 .0 .long))
 
 mul-run-line : tie.Need-mul-run-line Inv-loop μ-loop
 mul-run-line c =
@@ -36,48 +38,82 @@ mul-run-line c =
 
 run-line-requires : tie.Need-run-line-requires Inv-loop μ-loop
 run-line-requires c κs =
-    let s = c .before .before .before .before .before .before .before .before .before .before .before .before .before .before .before .before .before .before in
-    let l = c .before .before .before .before .before .before .before .before .before .loop in
+    let i = c .before .before .before .before .before .before .before in
+    let l₂ = i .before .before in
+    let b = l₂ .before .before .before .before .before .before .before .before in
+    let s = b .before in
+    let l = l₂ .loop in
     let k = known (s .pre .0 .0) in
-    ((s .pre .0 .0, rw (l .inv .0, l .inv .1) (line-lies (s .args .t) (k .least) (k .most) (s .pre .0 .0 .stride) (s .pre .0 .1) (k .groups-few) (l .l) (c .before .before .before .before .before .before .before .if1 .taken))), (record { long = l .inv .3 .long; room = λ d h. omega (arith, s .pre .1 .0 .room d h, lined-few (k .most) (l .inv .3) d h) }, l .inv .2))
+    ((s .pre .0 .0, rw (l .inv .0, l .inv .1) (line-lies (s .args .t) (k .least) (k .most) (s .pre .0 .0 .stride) (s .pre .0 .1) (k .groups-few) (l .l) (i .if1 .taken))), (record { long = l .inv .3 .long; room = λ d h. omega (arith, s .pre .1 .0 .room d h, lined-few (k .most) (l .inv .3) d h) }, l .inv .2))
 
 add-l : tie.Need-add-l Inv-loop μ-loop
-add-l c = let s = c .before .before .before .before .before .before .before .before .before .before .before .before .before .before .before .before .before .before .before .before .before .before .before .before .before .before .before .before .before .before .before .before .before in omega (arith, c .before .before .before .before .before .before .before .before .before .before .before .before .before .before .before .before .before .before .before .before .before .before .if1 .taken, known (s .pre .0 .0) .most)
+add-l c =
+    let i = c .before .before .before .before .before .before .before .before .before .before .before .before .before .before .before .before .before .before .before .before .before .before in
+    let b = i .before .before .before .before .before .before .before .before .before .before in
+    let s = b .before in omega (arith, i .if1 .taken, known (s .pre .0 .0) .most)
 
 loop-less : tie.Need-loop-less Inv-loop μ-loop
-loop-less c = omega (arith, c .before .before .before .before .before .before .before .before .before .before .before .before .before .before .before .before .before .before .before .before .before .before .if1 .taken)
+loop-less c =
+    let i = c .before .before .before .before .before .before .before .before .before .before .before .before .before .before .before .before .before .before .before .before .before .before in
+    omega (arith, i .if1 .taken)
 
 loop-again : tie.Need-loop-again Inv-loop μ-loop
 loop-again c =
-    let s = c .before .before .before .before .before .before .before .before .before .before .before .before .before .before .before .before .before .before .before .before .before .before .before .before .before .before .before .before .before .before .before .before .before in
-    let l = c .before .before .before .before .before .before .before .before .before .before .before .before .before .before .before .before .before .before .before .before .before .before .before .before .loop in
+    let r = c .before .before .before .before .before .before .before .before .before .before .before .before .before .before in
+    let i = r .before .before .before .before .before .before .before .before in
+    let l₂ = i .before .before in
+    let b = l₂ .before .before .before .before .before .before .before .before in
+    let s = b .before in
+    let l = l₂ .loop in
     let k = known (s .pre .0 .0) in
-    let y = c .before .before .before .before .before .before .before .before .before .before .before .before .before .before .run-line in
-    (l .inv .0, l .inv .1, omega (arith, l .inv .2, y .kept), lined-step (k .least) (s .pre .0 .0 .stride) (s .pre .0 .1) (c .before .before .before .before .before .before .before .before .before .before .before .before .before .before .before .before .before .before .before .before .before .before .if1 .taken) (l .inv .3) (rw (l .inv .1) at (y .ensures)) refl (omega (arith, l .inv .3 .long, y .kept)))
+    let y = r .run-line in
+    (l .inv .0, l .inv .1, omega (arith, l .inv .2, y .kept), lined-step (k .least) (s .pre .0 .0 .stride) (s .pre .0 .1) (i .if1 .taken) (l .inv .3) (rw (l .inv .1) at (y .ensures)) refl (omega (arith, l .inv .3 .long, y .kept)))
 
 same-length : tie.Need-same-length Inv-loop μ-loop
-same-length c = let s = c .before .before .before .before .before .before .before .before .before .before .before in omega (arith, c .before .before .loop .inv .3 .long, s .pre .1 .0 .long)
+same-length c =
+    let b = c .before .before .before .before .before .before .before .before .before .before in
+    let s = b .before in omega (arith, c .before .before .loop .inv .3 .long, s .pre .1 .0 .long)
 
 same-length-2 : tie.Need-same-length-2 Inv-loop μ-loop
-same-length-2 c = let s = c .before .before .before .before .before .before .before .before .before .before .before in omega (arith, c .before .before .loop .inv .0, c .before .before .loop .inv .2 .words, s .pre .1 .1 .words)
+same-length-2 c =
+    let l = c .before .before in
+    let b = l .before .before .before .before .before .before .before .before in
+    let s = b .before in omega (arith, l .loop .inv .0, l .loop .inv .2 .words, s .pre .1 .1 .words)
 
 same-length-3 : tie.Need-same-length-3 Inv-loop μ-loop
-same-length-3 c = let s = c .before .before .before .before .before .before .before .before .before .before .before in omega (arith, c .before .before .loop .inv .0, c .before .before .loop .inv .2 .marks, s .pre .1 .1 .marks)
+same-length-3 c =
+    let l = c .before .before in
+    let b = l .before .before .before .before .before .before .before .before in
+    let s = b .before in omega (arith, l .loop .inv .0, l .loop .inv .2 .marks, s .pre .1 .1 .marks)
 
 same-length-4 : tie.Need-same-length-4 Inv-loop μ-loop
-same-length-4 c = let s = c .before .before .before .before .before .before .before .before .before .before .before in omega (arith, c .before .before .loop .inv .0, c .before .before .loop .inv .2 .aims, s .pre .1 .1 .aims)
+same-length-4 c =
+    let l = c .before .before in
+    let b = l .before .before .before .before .before .before .before .before in
+    let s = b .before in omega (arith, l .loop .inv .0, l .loop .inv .2 .aims, s .pre .1 .1 .aims)
 
 same-length-5 : tie.Need-same-length-5 Inv-loop μ-loop
-same-length-5 c = let s = c .before .before .before .before .before .before .before .before .before .before .before in omega (arith, c .before .before .loop .inv .0, c .before .before .loop .inv .2 .words2, s .pre .1 .1 .words2)
+same-length-5 c =
+    let l = c .before .before in
+    let b = l .before .before .before .before .before .before .before .before in
+    let s = b .before in omega (arith, l .loop .inv .0, l .loop .inv .2 .words2, s .pre .1 .1 .words2)
 
 same-length-6 : tie.Need-same-length-6 Inv-loop μ-loop
-same-length-6 c = let s = c .before .before .before .before .before .before .before .before .before .before .before in omega (arith, c .before .before .loop .inv .0, c .before .before .loop .inv .2 .marks2, s .pre .1 .1 .marks2)
+same-length-6 c =
+    let l = c .before .before in
+    let b = l .before .before .before .before .before .before .before .before in
+    let s = b .before in omega (arith, l .loop .inv .0, l .loop .inv .2 .marks2, s .pre .1 .1 .marks2)
 
 same-length-7 : tie.Need-same-length-7 Inv-loop μ-loop
-same-length-7 c = let s = c .before .before .before .before .before .before .before .before .before .before .before in omega (arith, c .before .before .loop .inv .0, c .before .before .loop .inv .2 .aims2, s .pre .1 .1 .aims2)
+same-length-7 c =
+    let l = c .before .before in
+    let b = l .before .before .before .before .before .before .before .before in
+    let s = b .before in omega (arith, l .loop .inv .0, l .loop .inv .2 .aims2, s .pre .1 .1 .aims2)
 
 returns : tie.Need-returns Inv-loop μ-loop
-returns c = let s = c .before .before .before .before .before .before .before .before .before .before .before in lined-end (known (s .pre .0 .0) .least) (s .pre .0 .1) (omega (arith, c .if1 .left)) refl (c .before .before .loop .inv .3)
+returns c =
+    let b = c .before .before .before .before .before .before .before .before .before .before in
+    let s = b .before in lined-end (known (s .pre .0 .0) .least) (s .pre .0 .1) (omega (arith, c .if1 .left)) refl (c .before .before .loop .inv .3)
 
 pub run-group-spec : {M : Type 1} → statement M
 run-group-spec =

@@ -20,24 +20,40 @@ movers-requires : tie.Need-movers-requires Inv-loop μ-loop
 movers-requires c κs = c .before .before .before .before .pre .0 .0
 
 add-count : tie.Need-add-count Inv-loop μ-loop
-add-count c = let s = c .before .before .before .before .before .before in omega (arith, c .before .movers .ensures, s .pre .1 (c .before .before .before .loop .j) (c .before .before .loop-test .taken))
+add-count c =
+    let l = c .before .before .before in
+    let b = l .before .before in
+    let s = b .before in omega (arith, c .before .movers .ensures, s .pre .1 (l .loop .j) (c .before .before .loop-test .taken))
 
 add-log-count : tie.Need-add-log-count Inv-loop μ-loop
 add-log-count c = let s = c .before .before .before .before .before .before .before in omega (arith, c .before .before .before .loop-test .taken, s .pre .0 .1)
 
 log-count-requires : tie.Need-log-count-requires Inv-loop μ-loop
-log-count-requires c κs = let s = c .before .before .before .before .before .before .before in omega (arith, c .before .before .movers .ensures, s .pre .1 (c .before .before .before .before .loop .j) (c .before .before .before .loop-test .taken))
+log-count-requires c κs =
+    let l = c .before .before .before in
+    let l₂ = l .before in
+    let b = l₂ .before .before in
+    let s = b .before in omega (arith, c .before .before .movers .ensures, s .pre .1 (l₂ .loop .j) (l .loop-test .taken))
 
 add-j : tie.Need-add-j Inv-loop μ-loop
-add-j c = let s = c .before .before .before .before .before .before .before .before .before .before in omega (arith, c .before .before .before .before .before .before .loop-test .taken, s .pre .0 .1)
+add-j c =
+    let l = c .before .before .before .before .before .before in
+    let b = l .before .before .before in
+    let s = b .before in omega (arith, l .loop-test .taken, s .pre .0 .1)
 
 loop-less : tie.Need-loop-less Inv-loop μ-loop
 loop-less c = omega (arith, c .before .before .before .before .before .before .loop-test .taken)
 
 loop-again : tie.Need-loop-again Inv-loop μ-loop
-loop-again c = let s = c .before .before .before .before .before .before .before .before .before .before in
-    let e = ap (λ (n : ℕ). n + s .args .tally .swapped) (c .before .before .before .before .before .movers .ensures) in
-    (omega (arith, c .before .before .before .before .before .before .before .loop .inv .0, c .before .before .log-count .kept), rw (c .before .before .log-count .ensures) (logging-next _ (c .before .before .before .before .before .before .loop-test .taken) e (c .before .before .before .before .before .before .before .loop .inv .1)))
+loop-again c =
+    let l = c .before .before in
+    let m = l .before .before .before in
+    let l₂ = m .before in
+    let l₃ = l₂ .before in
+    let b = l₃ .before .before in
+    let s = b .before in
+    let e = ap (λ (n : ℕ). n + s .args .tally .swapped) (m .movers .ensures) in
+    (omega (arith, l₃ .loop .inv .0, l .log-count .kept), rw (l .log-count .ensures) (logging-next _ (l₂ .loop-test .taken) e (l₃ .loop .inv .1)))
 
 same-length : tie.Need-same-length Inv-loop μ-loop
 same-length c = c .before .loop .inv .0

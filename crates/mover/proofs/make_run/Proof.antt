@@ -19,32 +19,55 @@ swap-lanes-requires : tie.Need-swap-lanes-requires
 swap-lanes-requires c κs = tt
 
 same-length : tie.Need-same-length
-same-length c = omega (arith, c .before .before .before .before .before .before .before .before .before .before .before .before .before .before .before .before .before .before .before .before .before .before .before .before .before .before .before .before .before .before .before .run-all .kept, c .before .before .before .before .before .before .before .before .before .before .before .before .swap-lanes .kept)
+same-length c =
+    let s = c .before .before .before .before .before .before .before .before .before .before .before .before in
+    let r = s .before .before .before .before .before .before .before .before .before .before .before .before .before .before .before .before .before .before .before in
+    omega (arith, r .run-all .kept, s .swap-lanes .kept)
 
 same-length-2 : tie.Need-same-length-2
-same-length-2 c = omega (arith, c .before .before .before .before .before .before .before .before .before .before .before .before .before .before .before .before .before .before .before .before .before .before .before .before .before .before .before .before .before .before .before .run-all .kept, c .before .before .before .before .before .before .before .before .before .before .before .before .swap-lanes .kept)
+same-length-2 c =
+    let s = c .before .before .before .before .before .before .before .before .before .before .before .before in
+    let r = s .before .before .before .before .before .before .before .before .before .before .before .before .before .before .before .before .before .before .before in
+    omega (arith, r .run-all .kept, s .swap-lanes .kept)
 
 same-length-3 : tie.Need-same-length-3
-same-length-3 c = omega (arith, c .before .before .before .before .before .before .before .before .before .before .before .before .before .before .before .before .before .before .before .before .before .before .before .before .before .before .before .before .before .before .before .run-all .kept, c .before .before .before .before .before .before .before .before .before .before .before .before .swap-lanes .kept)
+same-length-3 c =
+    let s = c .before .before .before .before .before .before .before .before .before .before .before .before in
+    let r = s .before .before .before .before .before .before .before .before .before .before .before .before .before .before .before .before .before .before .before in
+    omega (arith, r .run-all .kept, s .swap-lanes .kept)
 
 same-length-4 : tie.Need-same-length-4
-same-length-4 c = omega (arith, c .before .before .before .before .before .before .before .before .before .before .before .before .before .before .before .before .before .before .before .before .before .before .before .before .before .before .before .before .before .before .before .run-all .kept, c .before .before .before .before .before .before .before .before .before .before .before .before .swap-lanes .kept)
+same-length-4 c =
+    let s = c .before .before .before .before .before .before .before .before .before .before .before .before in
+    let r = s .before .before .before .before .before .before .before .before .before .before .before .before .before .before .before .before .before .before .before in
+    omega (arith, r .run-all .kept, s .swap-lanes .kept)
 
 same-length-5 : tie.Need-same-length-5
-same-length-5 c = omega (arith, c .before .before .before .before .before .before .before .before .before .before .before .before .before .before .before .before .before .before .before .before .before .before .before .before .before .before .before .before .before .before .before .run-all .kept, c .before .before .before .before .before .before .before .before .before .before .before .before .swap-lanes .kept)
+same-length-5 c =
+    let s = c .before .before .before .before .before .before .before .before .before .before .before .before in
+    let r = s .before .before .before .before .before .before .before .before .before .before .before .before .before .before .before .before .before .before .before in
+    omega (arith, r .run-all .kept, s .swap-lanes .kept)
 
 same-length-6 : tie.Need-same-length-6
-same-length-6 c = omega (arith, c .before .before .before .before .before .before .before .before .before .before .before .before .before .before .before .before .before .before .before .before .before .before .before .before .before .before .before .before .before .before .before .run-all .kept, c .before .before .before .before .before .before .before .before .before .before .before .before .swap-lanes .kept)
+same-length-6 c =
+    let s = c .before .before .before .before .before .before .before .before .before .before .before .before in
+    let r = s .before .before .before .before .before .before .before .before .before .before .before .before .before .before .before .before .before .before .before in
+    omega (arith, r .run-all .kept, s .swap-lanes .kept)
 
 returns : tie.Need-returns
-returns c = let s = c .before .before .before .before .before .before .before .before .before .before .before .before .before .before .before .before .before .before .before .before .before .before .before .before .before .before .before .before .before .before .before .before .before .before .before .before .before .before .before .before .before .before .before .before in
+returns c =
+    let s₂ = c .before .before .before .before .before .before .before .before .before .before .before .before in
+    let r₂ = s₂ .before .before .before .before .before .before .before .before .before .before .before .before .before .before .before .before .before .before .before in
+    let b = r₂ .before .before .before .before .before .before .before .before .before .before .before .before in
+    let s = b .before in
     let side = s .pre .0 in
-    let r = c .before .before .before .before .before .before .before .before .before .before .before .before .before .before .before .before .before .before .before .before .before .before .before .before .before .before .before .before .before .before .before .run-all in
+    let r = r₂ .run-all in
     let l = r .last .1 in
     let z : Sized (cells (s .args .leg .side)) (l .0) (l .1 .0) (l .1 .1 .0) (l .1 .1 .1 .0) (l .1 .1 .1 .1 .0) (l .1 .1 .1 .1 .1 .0) = omega (arith, s .pre .1, r .kept) in
     let on = lanes-are (s .args .leg .side) side z in
-    let q = c .before .before .before .before .before .before .before .before .before .before .before .before .swap-lanes .ensures in
-    made-so side (lanes-are (s .args .leg .side) side (s .pre .1)) (r .ensures) (cells-swapped _ side z (s .args .swaps) on q) (swap-count _ side z (s .args .swaps) on q)
+    let q = s₂ .swap-lanes .ensures in
+    made-so side (lanes-are (s .args .leg .side) side (s .pre .1)) (r .ensures) (cells-swapped _ side z (s .args .swaps) on q)
+    (swap-count _ side z (s .args .swaps) on q)
 
 pub make-run-spec : {M : Type 1} → statement M
 make-run-spec =

@@ -28,9 +28,11 @@ counted-requires c κs = tt
 
 add-count : tie.Need-add-count Inv-loop μ-loop
 add-count c =
-    let s = c .before .before .before .before in
-    let z = adding-next _ (c .before .before .loop-test .taken) (s .pre) (c .before .goes-in .ensures) (c .counted .ensures) (c .before .before .before .loop .inv) in
-    omega (arith, z .few, c .before .before .loop-test .taken)
+    let l = c .before .before in
+    let b = l .before in
+    let s = b .before in
+    let z = adding-next _ (l .loop-test .taken) (s .pre) (c .before .goes-in .ensures) (c .counted .ensures) (b .loop .inv) in
+    omega (arith, z .few, l .loop-test .taken)
 
 add-d : tie.Need-add-d Inv-loop μ-loop
 add-d c = omega (arith, c .before .before .loop-test .taken)
@@ -39,7 +41,9 @@ loop-less : tie.Need-loop-less Inv-loop μ-loop
 loop-less c = omega (arith, c .before .before .loop-test .taken)
 
 loop-again : tie.Need-loop-again Inv-loop μ-loop
-loop-again c = let s = c .before .before .before .before in adding-next _ (c .before .before .loop-test .taken) (s .pre) (c .before .goes-in .ensures) (c .counted .ensures) (c .before .before .before .loop .inv)
+loop-again c =
+    let b = c .before .before .before in
+    let s = b .before in adding-next _ (c .before .before .loop-test .taken) (s .pre) (c .before .goes-in .ensures) (c .counted .ensures) (b .loop .inv)
 
 returns : tie.Need-returns Inv-loop μ-loop
 returns c = adding-end (omega (arith, c .loop-test .left)) (c .before .loop .inv)

@@ -26,7 +26,11 @@ same-length-2 : tie.Need-same-length-2
 same-length-2 c = search needs
 
 returns : tie.Need-returns
-returns c = finish-moves _ (c .before .before .before .before .before .before .before .before .before .before .before .before .before .before .before .before .run .ensures) (c .before .before .before .before .before .before .before .before .before .before .before .balance .ensures) (c .before .before .before .before .before .before .before .run2 .ensures) (c .before .before .combine .ensures)
+returns c =
+    let r = c .before .before .before .before .before .before .before in
+    let b = r .before .before .before .before in
+    let r₂ = b .before .before .before .before .before in
+    finish-moves _ (r₂ .run .ensures) (b .balance .ensures) (r .run2 .ensures) (c .before .before .combine .ensures)
 
 pub finish-spec : {M : Type 1} → statement M
 finish-spec =

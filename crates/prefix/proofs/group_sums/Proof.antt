@@ -35,7 +35,14 @@ same-length-3 : tie.Need-same-length-3
 same-length-3 c = search needs
 
 returns : tie.Need-returns
-returns c = group-sums _ (c .before .before .before .before .before .before .before .before .before .before .before .before .before .before .before .before .before .before .before .before .before .before .before .before .combine .ensures) (c .before .before .before .before .before .before .before .before .before .before .before .before .before .before .before .before .before .before .before .before .swap-words .ensures) (c .before .before .before .before .before .before .before .before .before .before .before .before .before .before .before .combine2 .ensures) (c .before .before .before .before .before .before .before .before .before .before .before .run .ensures) (c .before .before .before .before .before .before .combine3 .ensures) (c .before .before .run2 .ensures)
+returns c =
+    let c₂ = c .before .before .before .before .before .before in
+    let r = c₂ .before .before .before .before .before in
+    let c₃ = r .before .before .before .before in
+    let s = c₃ .before .before .before .before .before in
+    let c₄ = s .before .before .before .before in
+    group-sums _ (c₄ .combine .ensures) (s .swap-words .ensures) (c₃ .combine2 .ensures) (r .run .ensures) (c₂ .combine3 .ensures)
+    (c .before .before .run2 .ensures)
 
 pub group-sums-spec : {M : Type 1} → statement M
 group-sums-spec =

@@ -23,7 +23,11 @@ same-length : tie.Need-same-length
 same-length c = search needs
 
 returns : tie.Need-returns
-returns c = modify-moves _ (c .before .before .before .before .before .before .before .before .before .before .before .before .before .before .combine .ensures) (c .before .before .before .before .before .before .before .before .before .before .run .ensures) (c .before .before .before .before .before .before .balance .ensures) (c .before .before .swap-words .ensures)
+returns c =
+    let b = c .before .before .before .before .before .before in
+    let r = b .before .before .before .before in
+    let c₂ = r .before .before .before .before in
+    modify-moves _ (c₂ .combine .ensures) (r .run .ensures) (b .balance .ensures) (c .before .before .swap-words .ensures)
 
 pub modify-spec : {M : Type 1} → statement M
 modify-spec =

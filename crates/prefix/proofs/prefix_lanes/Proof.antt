@@ -32,7 +32,12 @@ same-length-5 : tie.Need-same-length-5
 same-length-5 c = search needs
 
 returns : tie.Need-returns
-returns c = prefix-lanes-moves _ (c .before .before .before .before .before .before .before .before .before .before .before .before .before .before .before .before .before .before .before .before .before .before .before .before .before .before .before .before .before .rows-and-columns .ensures) (c .before .before .before .before .before .before .before .before .before .before .before .before .before .before .before .before .before .before .before .before .group-sums .ensures) (c .before .before .before .before .before .before .before .before .before .before .modify .ensures) (c .before .before .before .before .finish .ensures)
+returns c =
+    let f = c .before .before .before .before in
+    let m = f .before .before .before .before .before .before in
+    let g = m .before .before .before .before .before .before .before .before .before .before in
+    let r = g .before .before .before .before .before .before .before .before .before in
+    prefix-lanes-moves _ (r .rows-and-columns .ensures) (g .group-sums .ensures) (m .modify .ensures) (f .finish .ensures)
 
 pub prefix-lanes-spec : {M : Type 1} → statement M
 prefix-lanes-spec =

@@ -18,13 +18,21 @@ returns-2 : tie.Need-returns-2
 returns-2 c = rw (le-ltb _ _ (c .before .before .if1 .left)) (rw (sym (c .before .is-board .ensures) ∙ not-true _ (c .if2 .taken)))
 
 sum-least-requires : tie.Need-sum-least-requires
-sum-least-requires c κs = (board-known _ _ (sym (c .before .before .is-board .ensures) ∙ not-false _ (c .before .if2 .left)), c .before .before .before .if1 .left)
+sum-least-requires c κs =
+    let i = c .before .before .before in
+    (board-known _ _ (sym (c .before .before .is-board .ensures) ∙ not-false _ (c .before .if2 .left)), i .if1 .left)
 
 same-length : tie.Need-same-length
 same-length c = search needs
 
 returns-3 : tie.Need-returns-3
-returns-3 c = rw (le-ltb _ _ (c .before .before .before .before .before .before .if1 .left)) (prefix-done _ _ _ (sym (c .before .before .before .before .before .is-board .ensures) ∙ not-false _ (c .before .before .before .before .if2 .left)) (λ i. c .before .before .before .before .before .before .before .slice-known .given i .fits) (c .before .before .sum-least .ensures))
+returns-3 c =
+    let i₂ = c .before .before .before .before in
+    let i₃ = i₂ .before in
+    let i₄ = i₃ .before in
+    let s = i₄ .before in
+    rw (le-ltb _ _ (i₄ .if1 .left))
+    (prefix-done _ _ _ (sym (i₃ .is-board .ensures) ∙ not-false _ (i₂ .if2 .left)) (λ i. s .slice-known .given i .fits) (c .before .before .sum-least .ensures))
 
 pub prefix-least-spec : {M : Type 1} → statement M
 prefix-least-spec =

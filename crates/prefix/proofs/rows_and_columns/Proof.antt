@@ -23,7 +23,10 @@ same-length-2 : tie.Need-same-length-2
 same-length-2 c = search needs
 
 returns : tie.Need-returns
-returns c = rows-columns _ (c .before .before .before .before .before .before .before .before .before .before .before .run .ensures) (c .before .before .before .before .before .before .combine .ensures) (c .before .before .run2 .ensures)
+returns c =
+    let c₂ = c .before .before .before .before .before .before in
+    let r = c₂ .before .before .before .before .before in
+    rows-columns _ (r .run .ensures) (c₂ .combine .ensures) (c .before .before .run2 .ensures)
 
 pub rows-and-columns-spec : {M : Type 1} → statement M
 rows-and-columns-spec =

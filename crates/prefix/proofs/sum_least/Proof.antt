@@ -37,7 +37,11 @@ same-length : tie.Need-same-length
 same-length c = search needs
 
 returns : tie.Need-returns
-returns c = prefix-moves _ (length-take-le _ _ (c .before .before .before .before .before .before .before .before .before .before .before .before .before .pre .1)) (length-take-le _ _ (c .before .before .before .before .before .before .before .before .before .before .before .before .before .pre .1)) (length-take-le _ _ (c .before .before .before .before .before .before .before .before .before .before .before .before .before .pre .1)) (length-take-le _ _ (c .before .before .before .before .before .before .before .before .before .before .before .before .before .pre .1)) (c .before .before .before .before .before .before .prefix-lanes .ensures)
+returns c =
+    let p = c .before .before .before .before .before .before in
+    let s = p .before .before .before .before .before .before .before in
+    prefix-moves _ (length-take-le _ _ (s .pre .1)) (length-take-le _ _ (s .pre .1)) (length-take-le _ _ (s .pre .1)) (length-take-le _ _ (s .pre .1))
+    (p .prefix-lanes .ensures)
 
 pub sum-least-spec : {M : Type 1} → statement M
 sum-least-spec =

@@ -38,7 +38,11 @@ same-length : tie.Need-same-length
 same-length c = search needs
 
 returns : tie.Need-returns
-returns c = prefix-moves _ (length-take-le _ _ (sizes (c .before .before .before .before .before .before .before .before .before .before .before .before .before .pre) .few)) (length-take-le _ _ (sizes (c .before .before .before .before .before .before .before .before .before .before .before .before .before .pre) .few)) (length-take-le _ _ (sizes (c .before .before .before .before .before .before .before .before .before .before .before .before .before .pre) .few)) (length-take-le _ _ (sizes (c .before .before .before .before .before .before .before .before .before .before .before .before .before .pre) .few)) (c .before .before .before .before .before .before .prefix-lanes .ensures)
+returns c =
+    let p = c .before .before .before .before .before .before in
+    let s = p .before .before .before .before .before .before .before in
+    prefix-moves _ (length-take-le _ _ (sizes (s .pre) .few)) (length-take-le _ _ (sizes (s .pre) .few)) (length-take-le _ _ (sizes (s .pre) .few))
+    (length-take-le _ _ (sizes (s .pre) .few)) (p .prefix-lanes .ensures)
 
 pub sum-many-spec : {M : Type 1} → statement M
 sum-many-spec =

@@ -38,14 +38,16 @@ refusing-lane-requires c κs = search needs
 
 returns : tie.Need-returns
 returns c =
-    let l = c .before .before .before .before in
+    let b = c .before .before .before in
+    let l = b .before in
     let g = l .before in
     let m = g .before .before in
     let a = m .before .before .before .args in
     let listed = m .before .prefix-sum-runs .ensures in
     let good = case-before (g .refusing .ensures) (m .marks-case .ensures) (g .before .accepted-by .ensures ∙ ap acceptedBy listed) in
-    let room = case-before (c .before .before .before .refusing2 .ensures) (l .log-case .ensures ∙ ap (λ (rs : List Run). logCase rs (a .log)) listed) good in
-    lane-before (a .side) (length (a .marks .now)) (c .refusing-lane .ensures) (case-before (c .before .refusing3 .ensures) (c .before .before .lane-case .ensures) room)
+    let room = case-before (b .refusing2 .ensures) (l .log-case .ensures ∙ ap (λ (rs : List Run). logCase rs (a .log)) listed) good in
+    lane-before (a .side) (length (a .marks .now)) (c .refusing-lane .ensures)
+    (case-before (c .before .refusing3 .ensures) (c .before .before .lane-case .ensures) room)
 
 pub judge-rank-spec : {M : Type 1} → statement M
 judge-rank-spec =

@@ -30,7 +30,10 @@ array-copy-out-run : tie.Need-array-copy-out-run Inv-loop μ-loop
 array-copy-out-run c = search needs
 
 returns : tie.Need-returns Inv-loop μ-loop
-returns c = sym (c .before .before .before .before .loop .inv .1 ∙ step-here (c .before .before .before .before .before .args .t1) (c .before .before .before .before .loop .q) (c .before .before .before .before .loop .left) none (search needs) (search needs))
+returns c =
+    let l = c .before .before .before .before in
+    let s = l .before in
+    sym (l .loop .inv .1 ∙ step-here (s .args .t1) (l .loop .q) (l .loop .left) none (search needs) (search needs))
 
 add-q : tie.Need-add-q Inv-loop μ-loop
 add-q c = search needs
@@ -39,7 +42,10 @@ loop-less : tie.Need-loop-less Inv-loop μ-loop
 loop-less c = search needs
 
 loop-again : tie.Need-loop-again Inv-loop μ-loop
-loop-again c = (search needs, c .before .before .before .before .before .loop .inv .1 ∙ step-next (c .before .before .before .before .before .before .args .t1) (c .before .before .before .before .before .loop .q) (c .before .before .before .before .before .loop .left) none (search needs) (search needs) ∙ rw add-one)
+loop-again c =
+    let l = c .before .before .before .before .before in
+    let s = l .before in
+    (search needs, l .loop .inv .1 ∙ step-next (s .args .t1) (l .loop .q) (l .loop .left) none (search needs) (search needs) ∙ rw add-one)
 
 returns-2 : tie.Need-returns-2 Inv-loop μ-loop
 returns-2 c = sym (c .before .loop .inv .1 ∙ step-none (c .before .before .args .t1) (c .before .loop .q) (c .before .loop .left) (search needs))

@@ -35,7 +35,10 @@ same-length : tie.Need-same-length Inv-loop μ-loop
 same-length c = search needs
 
 returns : tie.Need-returns Inv-loop μ-loop
-returns c = storing-all _ _ _ (code-past (c .before .before .before .before .before .before .args .runs) _ (sym (c .before .before .step-at .ensures) ∙ c .enum-told .given .1)) (c .before .before .before .before .loop .inv .0)
+returns c =
+    let l = c .before .before .before .before in
+    let s = l .before .before in
+    storing-all _ _ _ (code-past (s .args .runs) _ (sym (c .before .before .step-at .ensures) ∙ c .enum-told .given .1)) (l .loop .inv .0)
 
 code-requires : tie.Need-code-requires Inv-loop μ-loop
 code-requires c κs = search needs
@@ -51,8 +54,11 @@ loop-less c = omega (arith, c .before .before .before .before .before .before .l
 
 loop-again : tie.Need-loop-again Inv-loop μ-loop
 loop-again c =
-    let f = code-found (c .before .before .before .before .before .before .before .before .args .runs) _ _ (sym (c .before .before .before .before .step-at .ensures) ∙ c .before .before .step .given .1) in
-    (storing-next _ _ _ _ 0 (f .0) (f .1 ∙ sym (c .code .ensures)) (c .before .before .before .before .before .before .loop .inv .0), simp length-set (c .before .before .before .before .before .before .loop .inv .1))
+    let s = c .before .before .before .before in
+    let l = s .before .before in
+    let s₂ = l .before .before in
+    let f = code-found (s₂ .args .runs) _ _ (sym (s .step-at .ensures) ∙ c .before .before .step .given .1) in
+    (storing-next _ _ _ _ 0 (f .0) (f .1 ∙ sym (c .code .ensures)) (l .loop .inv .0), simp length-set (l .loop .inv .1))
 
 same-length-2 : tie.Need-same-length-2 Inv-loop μ-loop
 same-length-2 c = search needs

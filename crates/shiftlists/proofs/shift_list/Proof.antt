@@ -25,7 +25,13 @@ swapping-requires-2 : tie.Need-swapping-requires-2
 swapping-requires-2 c κs = search needs
 
 returns : tie.Need-returns
-returns c = rw (c .before .before .before .before .swapping .ensures, c .before .before .before .along .ensures, c .before .along2 .ensures, c .swapping2 .ensures, c .before .before .opposite .ensures, c .before .before .before .before .before .before .forth-way .ensures, c .before .before .before .before .before .swaps-of .ensures)
+returns c =
+    let a = c .before .before .before in
+    let s = a .before in
+    let s₂ = s .before in
+    let f = s₂ .before in
+    rw
+    (s .swapping .ensures, a .along .ensures, c .before .along2 .ensures, c .swapping2 .ensures, c .before .before .opposite .ensures, f .forth-way .ensures, s₂ .swaps-of .ensures)
 
 pub shift-list-spec : {M : Type 1} → statement M
 shift-list-spec =

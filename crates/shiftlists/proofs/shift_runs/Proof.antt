@@ -49,8 +49,11 @@ no-runs-requires c κs = search needs
 
 returns : tie.Need-returns
 returns c =
-    let a = c .before .before .before .before .args in
-    refused (a .side) (a .axis) (a .edge) (a .k) (c .before .before .before .distance-of .ensures ∙ ap distanceOf (toZ-ofZ w32 (a .k) (c .before .before .before .before .fits .k))) (sym (c .before .before .is-within .ensures) ∙ not-true _ (c .before .if1 .taken)) (c .no-runs .ensures)
+    let d = c .before .before .before in
+    let s = d .before in
+    let a = s .args in
+    refused (a .side) (a .axis) (a .edge) (a .k) (d .distance-of .ensures ∙ ap distanceOf (toZ-ofZ w32 (a .k) (s .fits .k)))
+    (sym (c .before .before .is-within .ensures) ∙ not-true _ (c .before .if1 .taken)) (c .no-runs .ensures)
 
 forth-moves-requires : tie.Need-forth-moves-requires
 forth-moves-requires c κs = inside c
@@ -63,8 +66,14 @@ shift-list-requires c κs = search needs
 
 returns-2 : tie.Need-returns-2
 returns-2 c =
-    let a = c .before .before .before .before .before .before .args in
-    accepted (a .side) (a .axis) (a .edge) (a .k) (c .before .before .before .before .before .distance-of .ensures ∙ ap distanceOf (toZ-ofZ w32 (a .k) (c .before .before .before .before .before .before .fits .k))) (sym (c .before .before .before .before .is-within .ensures) ∙ not-false _ (c .before .before .before .if1 .left)) (c .before .before .forth-moves .ensures) (c .before .back-moves .ensures) (c .shift-list .ensures)
+    let i = c .before .before .before in
+    let i₂ = i .before in
+    let d = i₂ .before in
+    let s = d .before in
+    let a = s .args in
+    accepted (a .side) (a .axis) (a .edge) (a .k) (d .distance-of .ensures ∙ ap distanceOf (toZ-ofZ w32 (a .k) (s .fits .k)))
+    (sym (i₂ .is-within .ensures) ∙ not-false _ (i .if1 .left)) (c .before .before .forth-moves .ensures) (c .before .back-moves .ensures)
+    (c .shift-list .ensures)
 
 pub shift-runs-spec : {M : Type 1} → statement M
 shift-runs-spec =

@@ -50,7 +50,10 @@ slice-write-words : tie.Need-slice-write-words Inv-loop μ-loop
 slice-write-words c = omega (arith, c .before .before .before .before .before .before .loop .inv .2 .size)
 
 next-spot-requires : tie.Need-next-spot-requires Inv-loop μ-loop
-next-spot-requires c κs = (row-less (c .before .before .before .before .before .before .before .before .before .pre .0) (c .before .before .before .before .before .before .loop .inv .1), column-less (c .before .before .before .before .before .before .before .before .before .pre .0) (c .before .before .before .before .before .before .loop .inv .1))
+next-spot-requires c κs =
+    let l = c .before .before .before .before .before .before in
+    let s = l .before .before .before in
+    (row-less (s .pre .0) (l .loop .inv .1), column-less (s .pre .0) (l .loop .inv .1))
 
 add-i : tie.Need-add-i Inv-loop μ-loop
 add-i c = omega (arith, c .before .before .before .before .before .before .before .loop .inv .2 .size)
@@ -59,7 +62,12 @@ loop-less : tie.Need-loop-less Inv-loop μ-loop
 loop-less c = omega (arith, c .before .before .before .before .before .before .before .loop .inv .2 .size)
 
 loop-again : tie.Need-loop-again Inv-loop μ-loop
-loop-again c = (omega (arith, c .before .before .before .before .before .before .before .loop .inv .2 .size), rw (c .next-spot .ensures) (spotted-next (c .before .before .before .before .before .before .before .before .before .before .pre .0) (c .before .before .before .before .before .before .before .loop .inv .1)), renewed-next _ (omega arith) (c .before .pick .ensures ∙ rw (c .before .before .before .before .takes .ensures, c .before .before .before .before .before .position .ensures, c .before .before .before .before .before .before .before .loop .inv .1 .row-is, c .before .before .before .before .before .before .before .loop .inv .1 .column-is)) (c .before .before .before .before .before .before .before .loop .inv .2))
+loop-again c =
+    let t = c .before .before .before .before in
+    let p = t .before in
+    let l = p .before .before in
+    let s = l .before .before .before in
+    (omega (arith, l .loop .inv .2 .size), rw (c .next-spot .ensures) (spotted-next (s .pre .0) (l .loop .inv .1)), renewed-next _ (omega arith) (c .before .pick .ensures ∙ rw (t .takes .ensures, p .position .ensures, l .loop .inv .1 .row-is, l .loop .inv .1 .column-is)) (l .loop .inv .2))
 
 same-length : tie.Need-same-length Inv-loop μ-loop
 same-length c = c .before .loop .inv .2 .size

@@ -17,7 +17,10 @@ same-length : tie.Need-same-length
 same-length c = search needs
 
 returns : tie.Need-returns
-returns c = shift-groups _ _ (c .before .before .before .before .before .before .before .before .before .before .swap-words .ensures) (c .before .before .before .before .before .before .shift-mesh .ensures) (c .before .before .swap-words2 .ensures)
+returns c =
+    let s = c .before .before .before .before .before .before in
+    let s₂ = s .before .before .before .before in
+    shift-groups _ _ (s₂ .swap-words .ensures) (s .shift-mesh .ensures) (c .before .before .swap-words2 .ensures)
 
 pub shift-groups-spec : {M : Type 1} → statement M
 shift-groups-spec =

@@ -26,7 +26,14 @@ same-length-2 : tie.Need-same-length-2
 same-length-2 c = search needs
 
 returns : tie.Need-returns
-returns c = shift-lanes _ (c .before .before .before .before .before .before .before .before .before .before .before .before .before .before .before .before .before .before .before .before .before .args .way) (c .before .before .before .before .before .before .before .before .before .before .before .before .before .before .before .before .before .before .before .before .before .args .edge) (c .before .before .before .before .before .before .before .before .before .before .before .before .before .before .before .before .before .before .before .before .before .args .forth) (c .before .before .before .before .before .before .before .before .before .before .before .before .before .before .before .before .before .before .before .before .before .args .around) _ (c .before .before .before .before .before .before .before .before .before .before .before .before .before .before .before .before .before .before .before .before .before .pre .1 .1 .0) (c .before .before .before .before .before .before .before .before .before .before .before .before .before .before .before .before .before .before .before .before .before .pre .1 .1 .1) (c .before .before .before .before .before .before .before .before .before .opposite .ensures) (c .before .before .before .before .before .before .before .before .before .before .before .before .before .before .before .before .combine .ensures) (c .before .before .before .before .before .before .before .before .before .before .before .before .run .ensures) (c .before .before .before .before .before .before .before .run2 .ensures) (c .before .before .choose .ensures)
+returns c =
+    let r = c .before .before .before .before .before .before .before in
+    let o = r .before .before in
+    let r₂ = o .before .before .before in
+    let c₂ = r₂ .before .before .before .before in
+    let s = c₂ .before .before .before .before .before in
+    shift-lanes _ (s .args .way) (s .args .edge) (s .args .forth) (s .args .around) _ (s .pre .1 .1 .0) (s .pre .1 .1 .1) (o .opposite .ensures)
+    (c₂ .combine .ensures) (r₂ .run .ensures) (r .run2 .ensures) (c .before .before .choose .ensures)
 
 pub shift-lanes-spec : {M : Type 1} → statement M
 shift-lanes-spec =

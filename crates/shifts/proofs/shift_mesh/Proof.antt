@@ -14,13 +14,18 @@ slice-aggregate-shift-lanes : tie.Need-slice-aggregate-shift-lanes
 slice-aggregate-shift-lanes c = sym (length-take-le _ _ (sizes (c .before .before .before .pre .0) .few))
 
 shift-lanes-requires : tie.Need-shift-lanes-requires
-shift-lanes-requires c κs = (c .before .before .before .pre .0 .least, (length-take-le _ _ (sizes (c .before .before .before .pre .0) .few), c .before .before .before .pre .1))
+shift-lanes-requires c κs =
+    let s = c .before .before .before in
+    (s .pre .0 .least, (length-take-le _ _ (sizes (s .pre .0) .few), s .pre .1))
 
 same-length : tie.Need-same-length
 same-length c = search needs
 
 returns : tie.Need-returns
-returns c = shift-moves-lane _ _ (length-take-le _ _ (sizes (c .before .before .before .before .before .before .before .pre .0) .few)) (c .before .before .before .shift-lanes .ensures)
+returns c =
+    let s = c .before .before .before in
+    let s₂ = s .before .before .before .before in
+    shift-moves-lane _ _ (length-take-le _ _ (sizes (s₂ .pre .0) .few)) (s .shift-lanes .ensures)
 
 pub shift-mesh-spec : {M : Type 1} → statement M
 shift-mesh-spec =

@@ -24,8 +24,11 @@ is-within-requires c κs = search needs
 
 returns-2 : tie.Need-returns-2
 returns-2 c =
-    let near = within-is _ _ _ _ (c .before .before .before .before .before .before .args .k) (toZ-ofZ w32 (c .before .before .before .before .before .before .args .k) (c .before .before .before .before .before .before .fits .k)) (c .before .before .distance-of .ensures) (c .before .is-within .ensures) ∙ not-true _ (c .if2 .taken) in
-    rw (sym (c .before .before .before .before .is-board .ensures) ∙ not-false _ (c .before .before .before .if1 .left), near)
+    let i = c .before .before .before in
+    let i₂ = i .before in
+    let s = i₂ .before .before in
+    let near = within-is _ _ _ _ (s .args .k) (toZ-ofZ w32 (s .args .k) (s .fits .k)) (c .before .before .distance-of .ensures) (c .before .is-within .ensures) ∙ not-true _ (c .if2 .taken) in
+    rw (sym (i₂ .is-board .ensures) ∙ not-false _ (i .if1 .left), near)
 
 shift-runs-requires : tie.Need-shift-runs-requires
 shift-runs-requires c κs = search needs
@@ -38,12 +41,19 @@ array-copy-out-around c = search needs
 
 shift-all-requires : tie.Need-shift-all-requires
 shift-all-requires c κs =
-    let near = within-is _ _ _ _ (c .before .before .before .before .before .before .before .before .before .before .args .k) (toZ-ofZ w32 (c .before .before .before .before .before .before .before .before .before .before .args .k) (c .before .before .before .before .before .before .before .before .before .before .fits .k)) (c .before .before .before .before .before .before .distance-of .ensures) (c .before .before .before .before .before .is-within .ensures) ∙ not-false _ (c .before .before .before .before .if2 .left) in
-    let runs = c .before .before .before .shift-runs .ensures ∙ ap (shiftRuns (c .before .before .before .before .before .before .before .before .before .before .args .side) (c .before .before .before .before .before .before .before .before .before .before .args .axis) (c .before .before .before .before .before .before .before .before .before .before .args .edge)) (toZ-ofZ w32 (c .before .before .before .before .before .before .before .before .before .before .args .k) (c .before .before .before .before .before .before .before .before .before .before .fits .k)) in (
-      board-known _ _ (sym (c .before .before .before .before .before .before .before .before .is-board .ensures) ∙ not-false _ (c .before .before .before .before .before .before .before .if1 .left)),
+    let s = c .before .before .before in
+    let i = s .before in
+    let i₂ = i .before in
+    let d = i₂ .before in
+    let i₃ = d .before in
+    let i₄ = i₃ .before in
+    let s₂ = i₄ .before .before in
+    let near = within-is _ _ _ _ (s₂ .args .k) (toZ-ofZ w32 (s₂ .args .k) (s₂ .fits .k)) (d .distance-of .ensures) (i₂ .is-within .ensures) ∙ not-false _ (i .if2 .left) in
+    let runs = s .shift-runs .ensures ∙ ap (shiftRuns (s₂ .args .side) (s₂ .args .axis) (s₂ .args .edge)) (toZ-ofZ w32 (s₂ .args .k) (s₂ .fits .k)) in (
+      board-known _ _ (sym (i₄ .is-board .ensures) ∙ not-false _ (i₃ .if1 .left)),
       (
-        rw (forth-times (c .before .before .before .before .before .before .before .before .before .before .args .side) (c .before .before .before .before .before .before .before .before .before .before .args .axis) (c .before .before .before .before .before .before .before .before .before .before .args .edge) (c .before .before .before .before .before .before .before .before .before .before .args .k) _ _ near runs) (forth-few _ (c .before .before .before .before .before .before .before .before .before .before .args .edge) _ near),
-        rw (home-times (c .before .before .before .before .before .before .before .before .before .before .args .side) (c .before .before .before .before .before .before .before .before .before .before .args .axis) (c .before .before .before .before .before .before .before .before .before .before .args .edge) (c .before .before .before .before .before .before .before .before .before .before .args .k) _ _ near runs) (back-few _ (c .before .before .before .before .before .before .before .before .before .before .args .edge) _ near),
+        rw (forth-times (s₂ .args .side) (s₂ .args .axis) (s₂ .args .edge) (s₂ .args .k) _ _ near runs) (forth-few _ (s₂ .args .edge) _ near),
+        rw (home-times (s₂ .args .side) (s₂ .args .axis) (s₂ .args .edge) (s₂ .args .k) _ _ near runs) (back-few _ (s₂ .args .edge) _ near),
       ),
     )
 
@@ -52,10 +62,17 @@ same-length c = search needs
 
 returns-3 : tie.Need-returns-3
 returns-3 c =
-    let near = within-is _ _ _ _ (c .before .before .before .before .before .before .before .before .before .before .before .before .before .args .k) (toZ-ofZ w32 (c .before .before .before .before .before .before .before .before .before .before .before .before .before .args .k) (c .before .before .before .before .before .before .before .before .before .before .before .before .before .fits .k)) (c .before .before .before .before .before .before .before .before .before .distance-of .ensures) (c .before .before .before .before .before .before .before .before .is-within .ensures) ∙ not-false _ (c .before .before .before .before .before .before .before .if2 .left) in
-    let runs = c .before .before .before .before .before .before .shift-runs .ensures ∙ ap (shiftRuns (c .before .before .before .before .before .before .before .before .before .before .before .before .before .args .side) (c .before .before .before .before .before .before .before .before .before .before .before .before .before .args .axis) (c .before .before .before .before .before .before .before .before .before .before .before .before .before .args .edge)) (toZ-ofZ w32 (c .before .before .before .before .before .before .before .before .before .before .before .before .before .args .k) (c .before .before .before .before .before .before .before .before .before .before .before .before .before .fits .k)) in
-    shift-done (c .before .before .before .before .before .before .before .before .before .before .before .before .before .args .side) (c .before .before .before .before .before .before .before .before .before .before .before .before .before .args .axis) (c .before .before .before .before .before .before .before .before .before .before .before .before .before .args .edge) (c .before .before .before .before .before .before .before .before .before .before .before .before .before .args .k) _ _ (sym (c .before .before .before .before .before .before .before .before .before .before .before .is-board .ensures) ∙ not-false _ (c .before .before .before .before .before .before .before .before .before .before .if1 .left)) near
-    (rw (forth-times (c .before .before .before .before .before .before .before .before .before .before .before .before .before .args .side) (c .before .before .before .before .before .before .before .before .before .before .before .before .before .args .axis) (c .before .before .before .before .before .before .before .before .before .before .before .before .before .args .edge) (c .before .before .before .before .before .before .before .before .before .before .before .before .before .args .k) _ _ near runs, home-times (c .before .before .before .before .before .before .before .before .before .before .before .before .before .args .side) (c .before .before .before .before .before .before .before .before .before .before .before .before .before .args .axis) (c .before .before .before .before .before .before .before .before .before .before .before .before .before .args .edge) (c .before .before .before .before .before .before .before .before .before .before .before .before .before .args .k) _ _ near runs) at (c .before .before .shift-all .ensures))
+    let s = c .before .before .before .before .before .before in
+    let i = s .before in
+    let i₂ = i .before in
+    let d = i₂ .before in
+    let i₃ = d .before in
+    let i₄ = i₃ .before in
+    let s₂ = i₄ .before .before in
+    let near = within-is _ _ _ _ (s₂ .args .k) (toZ-ofZ w32 (s₂ .args .k) (s₂ .fits .k)) (d .distance-of .ensures) (i₂ .is-within .ensures) ∙ not-false _ (i .if2 .left) in
+    let runs = s .shift-runs .ensures ∙ ap (shiftRuns (s₂ .args .side) (s₂ .args .axis) (s₂ .args .edge)) (toZ-ofZ w32 (s₂ .args .k) (s₂ .fits .k)) in
+    shift-done (s₂ .args .side) (s₂ .args .axis) (s₂ .args .edge) (s₂ .args .k) _ _ (sym (i₄ .is-board .ensures) ∙ not-false _ (i₃ .if1 .left)) near
+    (rw (forth-times (s₂ .args .side) (s₂ .args .axis) (s₂ .args .edge) (s₂ .args .k) _ _ near runs, home-times (s₂ .args .side) (s₂ .args .axis) (s₂ .args .edge) (s₂ .args .k) _ _ near runs) at (c .before .before .shift-all .ensures))
 
 pub shift-words-spec : {M : Type 1} → statement M
 shift-words-spec =

@@ -18,11 +18,19 @@ returns-2 c = rw (ne-eqb _ _ (c .before .before .before .before .if1 .left), eq-
 
 returns-3 : tie.Need-returns-3
 unfolding joined
-returns-3 c = let s = c .before .before .before .before .before .before .before .before .args in rw (ne-eqb _ _ (c .before .before .before .before .before .before .if1 .left), ne-eqb _ _ (c .before .before .before .if2 .left), lt-ltb (s .x .aim) (s .c .front .aim) (omega (arith, c .if3 .taken)))
+returns-3 c =
+    let i = c .before .before .before in
+    let i₂ = i .before .before .before in
+    let s₂ = i₂ .before .before in
+    let s = s₂ .args in rw (ne-eqb _ _ (i₂ .if1 .left), ne-eqb _ _ (i .if2 .left), lt-ltb (s .x .aim) (s .c .front .aim) (omega (arith, c .if3 .taken)))
 
 returns-4 : tie.Need-returns-4
 unfolding joined
-returns-4 c = let s = c .before .before .before .before .before .before .before .before .args in rw (ne-eqb _ _ (c .before .before .before .before .before .before .if1 .left), ne-eqb _ _ (c .before .before .before .if2 .left), le-ltb (s .x .aim) (s .c .front .aim) (omega (arith, c .if3 .left)))
+returns-4 c =
+    let i = c .before .before .before in
+    let i₂ = i .before .before .before in
+    let s₂ = i₂ .before .before in
+    let s = s₂ .args in rw (ne-eqb _ _ (i₂ .if1 .left), ne-eqb _ _ (i .if2 .left), le-ltb (s .x .aim) (s .c .front .aim) (omega (arith, c .if3 .left)))
 
 pub joined-spec : {M : Type 1} → statement M
 joined-spec = tie.close (tie.spec returns alone-requires returns-2 returns-3 returns-4)

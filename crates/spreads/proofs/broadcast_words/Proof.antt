@@ -17,7 +17,9 @@ is-cell-requires : tie.Need-is-cell-requires
 is-cell-requires c κs = search needs
 
 returns-2 : tie.Need-returns-2
-returns-2 c = rw (sym (c .before .before .before .is-board .ensures) ∙ not-false _ (c .before .before .if1 .left), sym (c .before .is-cell .ensures) ∙ not-true _ (c .if2 .taken))
+returns-2 c =
+    let i = c .before .before .before in
+    rw (sym (i .is-board .ensures) ∙ not-false _ (c .before .before .if1 .left), sym (c .before .is-cell .ensures) ∙ not-true _ (c .if2 .taken))
 
 spread-all-requires : tie.Need-spread-all-requires
 spread-all-requires c κs = let k = cell-known _ _ (sym (c .before .before .is-cell .ensures) ∙ not-false _ (c .before .if2 .left)) in (k .side .least, k .side .most, k .inside)
@@ -26,7 +28,13 @@ same-length : tie.Need-same-length
 same-length c = search needs
 
 returns-3 : tie.Need-returns-3
-returns-3 c = broadcast-done _ _ _ _ (sym (c .before .before .before .before .before .before .before .is-board .ensures) ∙ not-false _ (c .before .before .before .before .before .before .if1 .left)) (sym (c .before .before .before .before .before .is-cell .ensures) ∙ not-false _ (c .before .before .before .before .if2 .left)) (c .before .before .spread-all .ensures)
+returns-3 c =
+    let i = c .before .before .before .before in
+    let i₂ = i .before in
+    let i₃ = i₂ .before in
+    let i₄ = i₃ .before in
+    broadcast-done _ _ _ _ (sym (i₄ .is-board .ensures) ∙ not-false _ (i₃ .if1 .left)) (sym (i₂ .is-cell .ensures) ∙ not-false _ (i .if2 .left))
+    (c .before .before .spread-all .ensures)
 
 pub broadcast-words-spec : {M : Type 1} → statement M
 broadcast-words-spec =

@@ -20,7 +20,11 @@ same-length : tie.Need-same-length
 same-length c = search needs
 
 returns-2 : tie.Need-returns-2
-returns-2 c = data-sum-done _ _ _ (sym (c .before .before .before .before .before .is-board .ensures) ∙ not-false _ (c .before .before .before .before .if1 .left)) (λ i. c .before .before .before .before .before .before .slice-known .given i .fits) (c .before .before .sum-all .ensures)
+returns-2 c =
+    let i₂ = c .before .before .before .before in
+    let i₃ = i₂ .before in
+    let s = i₃ .before in
+    data-sum-done _ _ _ (sym (i₃ .is-board .ensures) ∙ not-false _ (i₂ .if1 .left)) (λ i. s .slice-known .given i .fits) (c .before .before .sum-all .ensures)
 
 pub data-sum-words-spec : {M : Type 1} → statement M
 data-sum-words-spec =

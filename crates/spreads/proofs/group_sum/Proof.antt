@@ -23,7 +23,11 @@ same-length : tie.Need-same-length
 same-length c = search needs
 
 returns : tie.Need-returns
-returns c = group-sum-moves _ (c .before .before .before .before .before .before .before .before .before .before .before .before .before .before .run .ensures) (c .before .before .before .before .before .before .before .before .before .before .run2 .ensures) (c .before .before .before .before .before .before .run3 .ensures) (c .before .before .run4 .ensures)
+returns c =
+    let r = c .before .before .before .before .before .before in
+    let r₂ = r .before .before .before .before in
+    let r₃ = r₂ .before .before .before .before in
+    group-sum-moves _ (r₃ .run .ensures) (r₂ .run2 .ensures) (r .run3 .ensures) (c .before .before .run4 .ensures)
 
 pub group-sum-spec : {M : Type 1} → statement M
 group-sum-spec =

@@ -29,7 +29,12 @@ same-length : tie.Need-same-length
 same-length c = search needs
 
 returns : tie.Need-returns
-returns c = spread-moves _ _ _ (c .before .before .before .before .before .before .before .before .before .before .before .before .before .before .before .before .before .pre .0) (c .before .before .before .before .before .before .before .before .before .before .before .before .before .before .before .before .before .pre .1) (c .before .before .before .before .before .before .before .before .before .before .before .before .before .before .run .ensures) (c .before .before .before .before .before .before .before .before .before .before .run2 .ensures) (c .before .before .before .before .before .before .run3 .ensures) (c .before .before .run4 .ensures)
+returns c =
+    let r = c .before .before .before .before .before .before in
+    let r₂ = r .before .before .before .before in
+    let r₃ = r₂ .before .before .before .before in
+    let s = r₃ .before .before .before in
+    spread-moves _ _ _ (s .pre .0) (s .pre .1) (r₃ .run .ensures) (r₂ .run2 .ensures) (r .run3 .ensures) (c .before .before .run4 .ensures)
 
 pub spread-spec : {M : Type 1} → statement M
 spread-spec =

@@ -24,7 +24,9 @@ rem-spread : tie.Need-rem-spread
 rem-spread c = search needs
 
 spread-requires : tie.Need-spread-requires
-spread-requires c κs = (omega (arith, a-in _ _ (c .before .before .pre .0) (c .before .before .pre .2), b-in _ _ (c .before .before .pre .0) (c .before .before .pre .2), c-in _ _ (c .before .before .pre .0) (c .before .before .pre .2), d-in _ _ (c .before .before .pre .0) (c .before .before .pre .2)), omega (arith, a-in _ _ (c .before .before .pre .0) (c .before .before .pre .2), b-in _ _ (c .before .before .pre .0) (c .before .before .pre .2), c-in _ _ (c .before .before .pre .0) (c .before .before .pre .2), d-in _ _ (c .before .before .pre .0) (c .before .before .pre .2)))
+spread-requires c κs =
+    let s = c .before .before in
+    (omega (arith, a-in _ _ (s .pre .0) (s .pre .2), b-in _ _ (s .pre .0) (s .pre .2), c-in _ _ (s .pre .0) (s .pre .2), d-in _ _ (s .pre .0) (s .pre .2)), omega (arith, a-in _ _ (s .pre .0) (s .pre .2), b-in _ _ (s .pre .0) (s .pre .2), c-in _ _ (s .pre .0) (s .pre .2), d-in _ _ (s .pre .0) (s .pre .2)))
 
 swap-words-requires : tie.Need-swap-words-requires
 swap-words-requires c κs = search needs
@@ -36,13 +38,18 @@ rem-spread-2 : tie.Need-rem-spread-2
 rem-spread-2 c = search needs
 
 spread-requires-2 : tie.Need-spread-requires-2
-spread-requires-2 c κs = (c-in _ _ (c .before .before .before .before .before .before .before .before .before .before .pre .0) (c .before .before .before .before .before .before .before .before .before .before .pre .2), d-in _ _ (c .before .before .before .before .before .before .before .before .before .before .pre .0) (c .before .before .before .before .before .before .before .before .before .before .pre .2))
+spread-requires-2 c κs =
+    let s = c .before .before .before .before .before .before .before .before .before .before in
+    (c-in _ _ (s .pre .0) (s .pre .2), d-in _ _ (s .pre .0) (s .pre .2))
 
 same-length : tie.Need-same-length
 same-length c = search needs
 
 returns : tie.Need-returns
-returns c = spread-all-moves _ _ (c .before .before .before .before .before .before .before .before .before .before .spread .ensures) (c .before .before .before .before .before .before .swap-words .ensures) (c .before .before .spread2 .ensures)
+returns c =
+    let s = c .before .before .before .before .before .before in
+    let s₂ = s .before .before .before .before in
+    spread-all-moves _ _ (s₂ .spread .ensures) (s .swap-words .ensures) (c .before .before .spread2 .ensures)
 
 pub spread-all-spec : {M : Type 1} → statement M
 spread-all-spec =

@@ -17,7 +17,10 @@ same-length : tie.Need-same-length
 same-length c = search needs
 
 returns : tie.Need-returns
-returns c = sum-all-moves _ (c .before .before .before .before .before .before .before .before .before .before .group-sum .ensures) (c .before .before .before .before .before .before .swap-words .ensures) (c .before .before .group-sum2 .ensures)
+returns c =
+    let s = c .before .before .before .before .before .before in
+    let g = s .before .before .before .before in
+    sum-all-moves _ (g .group-sum .ensures) (s .swap-words .ensures) (c .before .before .group-sum2 .ensures)
 
 pub sum-all-spec : {M : Type 1} → statement M
 sum-all-spec =

@@ -9,7 +9,9 @@ use Rattle.stretches.proofs.is_group.Statement.{statement}
 use Rattle.stretches.proofs.is_group.Tie as tie
 
 returns : tie.Need-returns
-returns c = sym (lt-ltb (c .before .args .group) (groups (c .before .args .side)) (omega (arith, square-grows {a = 4294967296} (c .if1 .taken), c .before .fits .group .fits)))
+returns c =
+    let s = c .before in
+    sym (lt-ltb (s .args .group) (groups (s .args .side)) (omega (arith, square-grows {a = 4294967296} (c .if1 .taken), s .fits .group .fits)))
 
 mul-result : tie.Need-mul-result
 mul-result c = omega (arith, square-grows (c .if1 .left))

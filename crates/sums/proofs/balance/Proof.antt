@@ -23,7 +23,10 @@ same-length : tie.Need-same-length Inv-loop μ-loop
 same-length c = search needs
 
 returns : tie.Need-returns Inv-loop μ-loop
-returns c = c .before .before .combine .ensures ∙ only-less (c .before .before .before .before .before .before .before .before .args .to .now) (c .before .before .before .before .before .before .before .before .args .more .now) (c .before .before .before .before .before .before .before .before .args .less .now) (c .before .before .before .before .if1 .taken)
+returns c =
+    let i = c .before .before .before .before in
+    let s = i .before .before .before .before in
+    c .before .before .combine .ensures ∙ only-less (s .args .to .now) (s .args .more .now) (s .args .less .now) (i .if1 .taken)
 
 combine-requires-2 : tie.Need-combine-requires-2 Inv-loop μ-loop
 combine-requires-2 c κs = search needs
@@ -32,7 +35,11 @@ same-length-2 : tie.Need-same-length-2 Inv-loop μ-loop
 same-length-2 c = search needs
 
 returns-2 : tie.Need-returns-2 Inv-loop μ-loop
-returns-2 c = c .before .before .combine2 .ensures ∙ only-more (c .before .before .before .before .before .before .before .before .before .args .to .now) (c .before .before .before .before .before .before .before .before .before .args .more .now) (c .before .before .before .before .before .before .before .before .before .args .less .now) (c .before .before .before .before .before .if1 .left) (c .before .before .before .before .if2 .taken)
+returns-2 c =
+    let i = c .before .before .before .before in
+    let i₂ = i .before in
+    let s = i₂ .before .before .before .before in
+    c .before .before .combine2 .ensures ∙ only-more (s .args .to .now) (s .args .more .now) (s .args .less .now) (i₂ .if1 .left) (i .if2 .taken)
 
 loop-holds : tie.Need-loop-holds Inv-loop μ-loop
 loop-holds c = (omega arith, renewed-start)
@@ -56,7 +63,10 @@ mul-combined : tie.Need-mul-combined Inv-loop μ-loop
 mul-combined c = omega (arith, c .before .before .before .before .loop .inv .1 .size)
 
 shared-slice-read-combined : tie.Need-shared-slice-read-combined Inv-loop μ-loop
-shared-slice-read-combined c = omega (arith, c .before .before .before .before .before .loop .inv .1 .size, c .before .before .before .before .before .before .if2 .left)
+shared-slice-read-combined c =
+    let l = c .before .before .before .before .before in
+    let i = l .before in
+    omega (arith, l .loop .inv .1 .size, i .if2 .left)
 
 combined-requires : tie.Need-combined-requires Inv-loop μ-loop
 combined-requires c κs = search needs
@@ -74,13 +84,21 @@ loop-less : tie.Need-loop-less Inv-loop μ-loop
 loop-less c = omega (arith, c .before .before .before .before .before .before .loop .inv .1 .size)
 
 loop-again : tie.Need-loop-again Inv-loop μ-loop
-loop-again c = (omega (arith, c .before .before .before .before .before .before .loop .inv .1 .size, c .before .before .before .before .before .loop-test .taken), renewed-next _ (omega (arith, c .before .before .before .before .before .before .loop .inv .1 .size, c .before .before .before .before .before .loop-test .taken)) (c .combined .ensures ∙ ap (λ x. minus x (getD (c .before .before .before .before .before .before .before .before .before .before .before .before .args .less .now) (c .before .before .before .before .before .before .loop .i) 0)) (c .before .before .plus .ensures)) (c .before .before .before .before .before .before .loop .inv .1))
+loop-again c =
+    let l = c .before .before .before .before .before in
+    let l₂ = l .before in
+    let s = l₂ .before .before .before .before .before .before in
+    (omega (arith, l₂ .loop .inv .1 .size, l .loop-test .taken), renewed-next _ (omega (arith, l₂ .loop .inv .1 .size, l .loop-test .taken)) (c .combined .ensures ∙ ap (λ x. minus x (getD (s .args .less .now) (l₂ .loop .i) 0)) (c .before .before .plus .ensures)) (l₂ .loop .inv .1))
 
 same-length-3 : tie.Need-same-length-3 Inv-loop μ-loop
 same-length-3 c = c .before .loop .inv .1 .size
 
 returns-3 : tie.Need-returns-3 Inv-loop μ-loop
-returns-3 c = balanced-end (c .before .before .before .before .before .before .before .args .to .now) (c .before .before .before .before .before .before .before .args .more .now) (c .before .before .before .before .before .before .before .args .less .now) (c .before .before .before .if1 .left) (c .before .before .if2 .left) (omega (arith, c .loop-test .left)) (c .before .loop .inv .1)
+returns-3 c =
+    let i = c .before .before .before in
+    let s = i .before .before .before .before in
+    balanced-end (s .args .to .now) (s .args .more .now) (s .args .less .now) (i .if1 .left) (c .before .before .if2 .left) (omega (arith, c .loop-test .left))
+    (c .before .loop .inv .1)
 
 pub balance-spec : {M : Type 1} → statement M
 balance-spec =

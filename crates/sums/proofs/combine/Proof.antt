@@ -49,7 +49,9 @@ loop-less : tie.Need-loop-less Inv-loop μ-loop
 loop-less c = omega (arith, c .before .before .before .before .loop .inv .1 .size)
 
 loop-again : tie.Need-loop-again Inv-loop μ-loop
-loop-again c = (omega (arith, c .before .before .before .before .loop .inv .1 .size), renewed-next _ (omega arith) (c .combined .ensures) (c .before .before .before .before .loop .inv .1))
+loop-again c =
+    let l = c .before .before .before .before in
+    (omega (arith, l .loop .inv .1 .size), renewed-next _ (omega arith) (c .combined .ensures) (l .loop .inv .1))
 
 same-length : tie.Need-same-length Inv-loop μ-loop
 same-length c = c .before .loop .inv .1 .size

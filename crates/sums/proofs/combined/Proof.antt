@@ -26,7 +26,9 @@ returns-2 : tie.Need-returns-2
 returns-2 c = rw (c .before .enum-told2 .given .1) (c .plus .ensures)
 
 returns-3 : tie.Need-returns-3
-returns-3 c = rw (c .before .enum-told3 .given .1) (minus-is _ _ _ (c .before .before .before .fits .own .fits) (c .before .before .before .fits .x .fits) (c .wrapping-sub-u32 .ok) (c .wrapping-sub-u32 .ensures))
+returns-3 c =
+    let s = c .before .before .before in
+    rw (c .before .enum-told3 .given .1) (minus-is _ _ _ (s .fits .own .fits) (s .fits .x .fits) (c .wrapping-sub-u32 .ok) (c .wrapping-sub-u32 .ensures))
 
 pub combined-spec : {M : Type 1} → statement M
 combined-spec =

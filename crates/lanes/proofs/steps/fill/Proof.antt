@@ -19,7 +19,10 @@ order-requires : tie.Need-order-requires Inv-loop μ-loop
 order-requires c κs = c .before .loop-test .taken
 
 fill-line-requires : tie.Need-fill-line-requires Inv-loop μ-loop
-fill-line-requires c κs = (c .before .before .before .loop .inv .1 .group, rw (c .order .ensures) (order-in (c .before .before .before .before .before .args .way) _ _ (c .before .before .loop-test .taken)))
+fill-line-requires c κs =
+    let l = c .before .before .before in
+    let s = l .before .before in
+    (l .loop .inv .1 .group, rw (c .order .ensures) (order-in (s .args .way) _ _ (c .before .before .loop-test .taken)))
 
 add-k : tie.Need-add-k Inv-loop μ-loop
 add-k c = omega (arith, c .before .before .before .before .before .before .before .before .pre .most)
@@ -28,7 +31,12 @@ loop-less : tie.Need-loop-less Inv-loop μ-loop
 loop-less c = omega arith
 
 loop-again : tie.Need-loop-again Inv-loop μ-loop
-loop-again c = (omega arith, swept-next _ (c .before .before .before .before .before .loop-test .taken) (c .before .before .before .order .ensures) (c .before .before .fill-line .ensures) (c .before .before .fill-line .kept .0) (c .before .before .before .before .before .before .loop .inv .1))
+loop-again c =
+    let f = c .before .before in
+    let o = f .before in
+    let l = o .before .before in
+    let l₂ = l .before in
+    (omega arith, swept-next _ (l .loop-test .taken) (o .order .ensures) (f .fill-line .ensures) (f .fill-line .kept .0) (l₂ .loop .inv .1))
 
 same-length : tie.Need-same-length Inv-loop μ-loop
 same-length c = c .before .loop .inv .1 .group .whole ∙ sym (c .before .before .before .pre .whole)

@@ -21,34 +21,71 @@ enum-known-from : tie.Need-enum-known-from
 enum-known-from c = search needs
 
 mul-join-places : tie.Need-mul-join-places
-mul-join-places c = omega (arith, along-few (c .before .before .before .before .before .before .before .before .pre .0) (c .before .before .before .before .before .before .before .before .args .way) (c .before .before .before .before .before .before .before .before .args .p) _ (c .before .before .before .before .before .before .before .before .pre .1) (c .before .before .before .before .before .before .along .ensures))
+mul-join-places c =
+    let a = c .before .before .before .before .before .before in
+    let s = a .before .before in
+    omega (arith, along-few (s .pre .0) (s .args .way) (s .args .p) _ (s .pre .1) (a .along .ensures))
 
 mul-join-places-2 : tie.Need-mul-join-places-2
-mul-join-places-2 c = omega (arith, along-few (c .before .before .before .before .before .before .before .before .pre .0) (c .before .before .before .before .before .before .before .before .args .way) (c .before .before .from .given .0 .0) _ (behind-is _ (c .before .before .before .before .before .before .before .before .args .way) (c .before .before .before .before .before .before .before .before .args .p) (c .before .before .from .given .0 .0) (c .before .before .before .before .before .before .before .before .pre .1) (sym (c .before .before .before .before .behind .ensures) ∙ c .before .before .from .given .1) .inside) (c .before .before .before .before .before .before .along .ensures))
+mul-join-places-2 c =
+    let f = c .before .before in
+    let b = f .before .before in
+    let a = b .before .before in
+    let s = a .before .before in
+    omega
+    (arith, along-few (s .pre .0) (s .args .way) (f .from .given .0 .0) _ (behind-is _ (s .args .way) (s .args .p) (f .from .given .0 .0) (s .pre .1) (sym (b .behind .ensures) ∙ f .from .given .1) .inside) (a .along .ensures))
 
 join-places-requires : tie.Need-join-places-requires
-join-places-requires c κs = places-ready (c .before .before .before .before .before .before .before .before .pre .0) (c .before .before .before .before .before .before .before .before .args .way) (c .before .before .before .before .before .before .before .before .args .p) (c .before .before .from .given .0 .0) _ _ (c .before .before .before .before .before .before .before .before .pre .1) (sym (c .before .before .before .before .behind .ensures) ∙ c .before .before .from .given .1) (c .before .before .before .before .before .before .along .ensures) (c .before .before .before .before .before .across .ensures)
+join-places-requires c κs =
+    let f = c .before .before in
+    let b = f .before .before in
+    let a = b .before in
+    let a₂ = a .before in
+    let s = a₂ .before .before in
+    places-ready (s .pre .0) (s .args .way) (s .args .p) (f .from .given .0 .0) _ _ (s .pre .1) (sym (b .behind .ensures) ∙ f .from .given .1)
+    (a₂ .along .ensures) (a .across .ensures)
 
 enum-told : tie.Need-enum-told
 enum-told c = search needs
 
 mul-clear-places : tie.Need-mul-clear-places
-mul-clear-places c = omega (arith, along-few (c .before .before .before .before .before .before .before .pre .0) (c .before .before .before .before .before .before .before .args .way) (c .before .before .before .before .before .before .before .args .p) _ (c .before .before .before .before .before .before .before .pre .1) (c .before .before .before .before .before .along .ensures))
+mul-clear-places c =
+    let a = c .before .before .before .before .before in
+    let s = a .before .before in
+    omega (arith, along-few (s .pre .0) (s .args .way) (s .args .p) _ (s .pre .1) (a .along .ensures))
 
 clear-places-requires : tie.Need-clear-places-requires
-clear-places-requires c κs = rw (c .before .before .before .before .before .along .ensures, c .before .before .before .before .across .ensures) (places (c .before .before .before .before .before .before .before .pre .0) (c .before .before .before .before .before .before .before .args .way) (c .before .before .before .before .before .before .before .args .p) (c .before .before .before .before .before .before .before .pre .1))
+clear-places-requires c κs =
+    let a = c .before .before .before .before in
+    let a₂ = a .before in
+    let s = a₂ .before .before in
+    rw (a₂ .along .ensures, a .across .ensures) (places (s .pre .0) (s .args .way) (s .args .p) (s .pre .1))
 
 same-length : tie.Need-same-length
 same-length c = search needs
 
 returns : tie.Need-returns
-returns c = turned-received (c .before .before .before .before .before .before .before .before .before .before .before .args .side) (c .before .before .before .before .before .before .before .before .before .before .before .args .way) Fill (c .before .before .before .before .before .before .before .before .before .before .before .args .p) (c .before .before .before .before .before .from .given .0 .0) _ _ (c .before .before .before .before .before .before .before .before .before .before .before .args .part .now) _ (c .before .before .before .before .before .before .before .before .before .before .before .pre .0) (c .before .before .before .before .before .before .before .before .before .before .before .pre .1) (sym (c .before .before .before .before .before .before .before .behind .ensures) ∙ c .before .before .before .before .before .from .given .1) (c .before .before .before .before .before .before .before .before .before .along .ensures) (c .before .before .before .before .before .before .before .before .across .ensures) (c .before .before .join-places .ensures)
+returns c =
+    let f = c .before .before .before .before .before in
+    let b = f .before .before in
+    let a = b .before in
+    let a₂ = a .before in
+    let s = a₂ .before .before in
+    turned-received (s .args .side) (s .args .way) Fill (s .args .p) (f .from .given .0 .0) _ _ (s .args .part .now) _ (s .pre .0) (s .pre .1)
+    (sym (b .behind .ensures) ∙ f .from .given .1) (a₂ .along .ensures) (a .across .ensures) (c .before .before .join-places .ensures)
 
 same-length-2 : tie.Need-same-length-2
 same-length-2 c = search needs
 
 returns-2 : tie.Need-returns-2
-returns-2 c = turned-cleared (c .before .before .before .before .before .before .before .before .before .before .args .side) (c .before .before .before .before .before .before .before .before .before .before .args .way) (c .before .before .before .before .before .before .before .before .before .before .args .p) _ _ (c .before .before .before .before .before .before .before .before .before .before .args .part .now) _ (c .before .before .before .before .before .before .before .before .before .before .pre .0) (c .before .before .before .before .before .before .before .before .before .before .pre .1) (sym (c .before .before .before .before .before .before .behind .ensures) ∙ c .before .before .before .before .enum-told .given .1) (c .before .before .before .before .before .before .before .before .along .ensures) (c .before .before .before .before .before .before .before .across .ensures) (c .before .before .clear-places .ensures)
+returns-2 c =
+    let e = c .before .before .before .before in
+    let b = e .before .before in
+    let a = b .before in
+    let a₂ = a .before in
+    let s = a₂ .before .before in
+    turned-cleared (s .args .side) (s .args .way) (s .args .p) _ _ (s .args .part .now) _ (s .pre .0) (s .pre .1)
+    (sym (b .behind .ensures) ∙ e .enum-told .given .1) (a₂ .along .ensures) (a .across .ensures) (c .before .before .clear-places .ensures)
 
 pub fill-line-spec : {M : Type 1} → statement M
 fill-line-spec =

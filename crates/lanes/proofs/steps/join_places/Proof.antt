@@ -30,25 +30,40 @@ add-j : tie.Need-add-j Inv-loop μ-loop
 add-j c = omega (arith, c .before .before .before .pre .1 .0 .inside _ (c .loop-test .taken), c .before .before .before .pre .1 .0 .few)
 
 mul-joined : tie.Need-mul-joined Inv-loop μ-loop
-mul-joined c = omega (arith, c .before .before .before .pre .0 .inside _ (c .loop-test .taken), c .before .before .before .pre .0 .few, c .before .loop .inv .1 .size)
+mul-joined c =
+    let s = c .before .before .before in
+    omega (arith, s .pre .0 .inside _ (c .loop-test .taken), s .pre .0 .few, c .before .loop .inv .1 .size)
 
 slice-read-joined : tie.Need-slice-read-joined Inv-loop μ-loop
 slice-read-joined c = omega (arith, c .before .before .before .before .pre .0 .inside _ (c .before .loop-test .taken), c .before .before .loop .inv .1 .size)
 
 mul-joined-2 : tie.Need-mul-joined-2 Inv-loop μ-loop
-mul-joined-2 c = omega (arith, c .before .before .before .before .pre .1 .0 .inside _ (c .before .loop-test .taken), c .before .before .before .before .pre .1 .0 .few, c .before .before .loop .inv .1 .size)
+mul-joined-2 c =
+    let s = c .before .before .before .before in
+    omega (arith, s .pre .1 .0 .inside _ (c .before .loop-test .taken), s .pre .1 .0 .few, c .before .before .loop .inv .1 .size)
 
 slice-read-joined-2 : tie.Need-slice-read-joined-2 Inv-loop μ-loop
-slice-read-joined-2 c = omega (arith, c .before .before .before .before .before .pre .1 .0 .inside _ (c .before .before .loop-test .taken), c .before .before .before .loop .inv .1 .size)
+slice-read-joined-2 c =
+    let l = c .before .before .before in
+    let s = l .before .before in
+    omega (arith, s .pre .1 .0 .inside _ (c .before .before .loop-test .taken), l .loop .inv .1 .size)
 
 joined-requires : tie.Need-joined-requires Inv-loop μ-loop
 joined-requires c κs = search needs
 
 mul-part : tie.Need-mul-part Inv-loop μ-loop
-mul-part c = omega (arith, c .before .before .before .before .before .before .pre .0 .inside _ (c .before .before .before .loop-test .taken), c .before .before .before .before .before .before .pre .0 .few, c .before .before .before .before .loop .inv .1 .size)
+mul-part c =
+    let l = c .before .before .before in
+    let l₂ = l .before in
+    let s = l₂ .before .before in
+    omega (arith, s .pre .0 .inside _ (l .loop-test .taken), s .pre .0 .few, l₂ .loop .inv .1 .size)
 
 slice-write-part : tie.Need-slice-write-part Inv-loop μ-loop
-slice-write-part c = omega (arith, c .before .before .before .before .before .before .pre .0 .inside _ (c .before .before .before .loop-test .taken), c .before .before .before .before .loop .inv .1 .size)
+slice-write-part c =
+    let l = c .before .before .before in
+    let l₂ = l .before in
+    let s = l₂ .before .before in
+    omega (arith, s .pre .0 .inside _ (l .loop-test .taken), l₂ .loop .inv .1 .size)
 
 add-k : tie.Need-add-k Inv-loop μ-loop
 add-k c = omega arith
@@ -57,7 +72,11 @@ loop-less : tie.Need-loop-less Inv-loop μ-loop
 loop-less c = omega arith
 
 loop-again : tie.Need-loop-again Inv-loop μ-loop
-loop-again c = (omega arith, laid-next _ (c .before .before .before .before .before .before .pre .0) refl (c .before .before .before .loop-test .taken) (joined-place (c .before .before .before .before .before .before .args .joining) _ _ (c .before .before .before .before .before .before .pre .0) (c .before .before .before .before .before .before .pre .1 .1) (c .before .before .before .loop-test .taken) (c .before .before .before .before .loop .inv .1) (c .joined .ensures)) (c .before .before .before .before .loop .inv .1))
+loop-again c =
+    let l = c .before .before .before in
+    let l₂ = l .before in
+    let s = l₂ .before .before in
+    (omega arith, laid-next _ (s .pre .0) refl (l .loop-test .taken) (joined-place (s .args .joining) _ _ (s .pre .0) (s .pre .1 .1) (l .loop-test .taken) (l₂ .loop .inv .1) (c .joined .ensures)) (l₂ .loop .inv .1))
 
 same-length : tie.Need-same-length Inv-loop μ-loop
 same-length c = c .before .loop .inv .1 .size

@@ -22,19 +22,36 @@ enum-known-from : tie.Need-enum-known-from
 enum-known-from c = search needs
 
 mul-t10 : tie.Need-mul-t10
-mul-t10 c = omega (arith, along-few (a-group (c .before .before .before .before .before .before .before .pre .0) (c .before .before .before .before .before .before .before .pre .1)) (c .before .before .before .before .before .before .before .args .way) (c .before .before .before .before .before .before .before .args .p) _ (omega arith) (c .before .before .before .before .before .along .ensures))
+mul-t10 c =
+    let a = c .before .before .before .before .before in
+    let s = a .before .before in
+    omega (arith, along-few (a-group (s .pre .0) (s .pre .1)) (s .args .way) (s .args .p) _ (omega arith) (a .along .ensures))
 
 mul-t11 : tie.Need-mul-t11
-mul-t11 c = omega (arith, along-few (a-group (c .before .before .before .before .before .before .before .pre .0) (c .before .before .before .before .before .before .before .pre .1)) (c .before .before .before .before .before .before .before .args .way) (c .before .from .given .0 .0) _ (behind-is _ (c .before .before .before .before .before .before .before .args .way) (c .before .before .before .before .before .before .before .args .p) (c .before .from .given .0 .0) (omega arith) (sym (c .before .before .before .behind .ensures) ∙ c .before .from .given .1) .inside) (c .before .before .before .before .before .along .ensures))
+mul-t11 c =
+    let f = c .before in
+    let b = f .before .before in
+    let a = b .before .before in
+    let s = a .before .before in
+    omega
+    (arith, along-few (a-group (s .pre .0) (s .pre .1)) (s .args .way) (f .from .given .0 .0) _ (behind-is _ (s .args .way) (s .args .p) (f .from .given .0 .0) (omega arith) (sym (b .behind .ensures) ∙ f .from .given .1) .inside) (a .along .ensures))
 
 enum-told : tie.Need-enum-told
 enum-told c = search needs
 
 returns-2 : tie.Need-returns-2
-returns-2 c = line-found (c .before .before .before .before .before .before .before .args .side) (c .before .before .before .before .before .before .before .args .way) (c .before .before .before .before .before .before .before .args .p) _ _ _ _ (omega arith) (c .before .before .before .behind .ensures) (c .before .from .given .1) (c .before .before .before .before .before .along .ensures) (c .before .before .before .before .across .ensures)
+returns-2 c =
+    let b = c .before .before .before in
+    let a = b .before in
+    let a₂ = a .before in
+    let s = a₂ .before .before in
+    line-found (s .args .side) (s .args .way) (s .args .p) _ _ _ _ (omega arith) (b .behind .ensures) (c .before .from .given .1) (a₂ .along .ensures)
+    (a .across .ensures)
 
 returns-3 : tie.Need-returns-3
-returns-3 c = line-missed (c .before .before .before .before .before .before .args .side) (c .before .before .before .before .before .before .args .way) (c .before .before .before .before .before .before .args .p) _ (omega arith) (c .before .before .behind .ensures) (c .enum-told .given .1)
+returns-3 c =
+    let s = c .before .before .before .before .before .before in
+    line-missed (s .args .side) (s .args .way) (s .args .p) _ (omega arith) (c .before .before .behind .ensures) (c .enum-told .given .1)
 
 pub line-at-spec : {M : Type 1} → statement M
 line-at-spec =

@@ -37,7 +37,12 @@ loop-less : tie.Need-loop-less Inv-loop μ-loop
 loop-less c = omega arith
 
 loop-again : tie.Need-loop-again Inv-loop μ-loop
-loop-again c = (omega arith, c .before .before .step-all .kept .0 ∙ c .before .before .before .before .before .before .loop .inv .1, run-next _ (c .before .before .before .before .before .before .before .before .args .way) (c .before .before .before .before .before .before .before .before .args .joining) (c .before .before .before .before .before .before .before .before .args .e) (c .before .before .before .before .before .before .before .before .args .n) (c .before .before .before .before .before .before .loop .k) _ (c .before .before .before .before .steps-on .ensures) (c .before .before .before .before .before .before .loop .inv .2) (c .before .before .step-all .ensures))
+loop-again c =
+    let s = c .before .before in
+    let s₂ = s .before .before in
+    let l = s₂ .before .before in
+    let s₃ = l .before .before in
+    (omega arith, s .step-all .kept .0 ∙ l .loop .inv .1, run-next _ (s₃ .args .way) (s₃ .args .joining) (s₃ .args .e) (s₃ .args .n) (l .loop .k) _ (s₂ .steps-on .ensures) (l .loop .inv .2) (s .step-all .ensures))
 
 same-length : tie.Need-same-length Inv-loop μ-loop
 same-length c = c .before .loop .inv .1

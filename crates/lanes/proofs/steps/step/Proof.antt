@@ -13,13 +13,17 @@ enum-told : tie.Need-enum-told
 enum-told c = search needs
 
 join-line-requires : tie.Need-join-line-requires
-join-line-requires c κs = rw (c .before .before .before .before .pre .1) (line-in-group (c .before .before .before .before .pre .0) (c .before .before .before .before .args .way) (c .before .before .before .before .args .rule .front))
+join-line-requires c κs =
+    let s = c .before .before .before .before in
+    rw (s .pre .1) (line-in-group (s .pre .0) (s .args .way) (s .args .rule .front))
 
 enum-told-2 : tie.Need-enum-told-2
 enum-told-2 c = search needs
 
 join-line-requires-2 : tie.Need-join-line-requires-2
-join-line-requires-2 c κs = rw (c .before .before .before .before .pre .1) (line-in-group (c .before .before .before .before .pre .0) (c .before .before .before .before .args .way) (c .before .before .before .before .args .rule .front))
+join-line-requires-2 c κs =
+    let s = c .before .before .before .before in
+    rw (s .pre .1) (line-in-group (s .pre .0) (s .args .way) (s .args .rule .front))
 
 enum-told-3 : tie.Need-enum-told-3
 enum-told-3 c = search needs
@@ -31,19 +35,30 @@ same-length : tie.Need-same-length
 same-length c = search needs
 
 returns : tie.Need-returns
-returns c = front-stepped (c .before .before .before .before .before .before .before .args .side) (c .before .before .before .before .before .before .before .args .way) (c .before .before .before .before .before .before .before .args .rule) (c .before .before .before .before .before .before .before .args .part .now) _ plus Add refl (c .before .before .before .before .enum-told .given .1) (turned-line (c .before .before .before .before .before .before .before .args .side) (c .before .before .before .before .before .before .before .args .way) (c .before .before .before .before .before .before .before .args .rule .front) (c .before .before .before .before .before .before .before .args .part .now) _ plus Add (c .before .before .before .before .before .before .before .args .line) refl (c .before .before .before .before .before .before .before .pre .0) (c .before .before .before .before .before .before .before .pre .1) (c .before .before .join-line .ensures))
+returns c =
+    let e = c .before .before .before .before in
+    let s = e .before .before .before in
+    front-stepped (s .args .side) (s .args .way) (s .args .rule) (s .args .part .now) _ plus Add refl (e .enum-told .given .1)
+    (turned-line (s .args .side) (s .args .way) (s .args .rule .front) (s .args .part .now) _ plus Add (s .args .line) refl (s .pre .0) (s .pre .1) (c .before .before .join-line .ensures))
 
 same-length-2 : tie.Need-same-length-2
 same-length-2 c = search needs
 
 returns-2 : tie.Need-returns-2
-returns-2 c = front-stepped (c .before .before .before .before .before .before .before .args .side) (c .before .before .before .before .before .before .before .args .way) (c .before .before .before .before .before .before .before .args .rule) (c .before .before .before .before .before .before .before .args .part .now) _ copy Copy refl (c .before .before .before .before .enum-told2 .given .1) (turned-line (c .before .before .before .before .before .before .before .args .side) (c .before .before .before .before .before .before .before .args .way) (c .before .before .before .before .before .before .before .args .rule .front) (c .before .before .before .before .before .before .before .args .part .now) _ copy Copy (c .before .before .before .before .before .before .before .args .line) refl (c .before .before .before .before .before .before .before .pre .0) (c .before .before .before .before .before .before .before .pre .1) (c .before .before .join-line2 .ensures))
+returns-2 c =
+    let e = c .before .before .before .before in
+    let s = e .before .before .before in
+    front-stepped (s .args .side) (s .args .way) (s .args .rule) (s .args .part .now) _ copy Copy refl (e .enum-told2 .given .1)
+    (turned-line (s .args .side) (s .args .way) (s .args .rule .front) (s .args .part .now) _ copy Copy (s .args .line) refl (s .pre .0) (s .pre .1) (c .before .before .join-line2 .ensures))
 
 same-length-3 : tie.Need-same-length-3
 same-length-3 c = search needs
 
 returns-3 : tie.Need-returns-3
-returns-3 c = filled-stepped (c .before .before .before .before .before .before .before .args .side) (c .before .before .before .before .before .before .before .args .way) (c .before .before .before .before .before .before .before .args .rule) (c .before .before .before .before .before .before .before .args .part .now) _ (c .before .before .before .before .enum-told3 .given .1) (c .before .before .fill .ensures)
+returns-3 c =
+    let e = c .before .before .before .before in
+    let s = e .before .before .before in
+    filled-stepped (s .args .side) (s .args .way) (s .args .rule) (s .args .part .now) _ (e .enum-told3 .given .1) (c .before .before .fill .ensures)
 
 pub step-spec : {M : Type 1} → statement M
 step-spec =

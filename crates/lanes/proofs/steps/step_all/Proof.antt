@@ -45,7 +45,10 @@ part-step-end : tie.Need-part-step-end Inv-loop μ-loop
 part-step-end c = omega (arith, block-in _ (c .before .before .before .before .pre .whole) (c .loop-test .taken) (c .before .loop .inv .1))
 
 step-requires : tie.Need-step-requires Inv-loop μ-loop
-step-requires c κs = (record { least = c .before .before .before .before .before .pre .least; most = c .before .before .before .before .before .pre .most; whole = block-size _ (c .before .before .before .before .before .pre .whole) (c .before .loop-test .taken) (c .before .before .loop .inv .1) }, c .before .before .before .line-at .ensures)
+step-requires c κs =
+    let l = c .before .before .before in
+    let s = l .before .before in
+    (record { least = s .pre .least; most = s .pre .most; whole = block-size _ (s .pre .whole) (c .before .loop-test .taken) (c .before .before .loop .inv .1) }, l .line-at .ensures)
 
 add-g : tie.Need-add-g Inv-loop μ-loop
 add-g c = omega (arith, square-grows (c .before .before .before .before .before .before .before .before .pre .most))
@@ -54,13 +57,20 @@ loop-less : tie.Need-loop-less Inv-loop μ-loop
 loop-less c = omega arith
 
 loop-again : tie.Need-loop-again Inv-loop μ-loop
-loop-again c = (omega arith, changed-next _ (c .before .before .before .before .before .before .before .before .pre .whole) (c .before .before .before .before .loop-test .taken) (c .before .before .before .before .before .loop .inv .1) _ (c .before .before .step .kept .0 ∙ block-size _ (c .before .before .before .before .before .before .before .before .pre .whole) (c .before .before .before .before .loop-test .taken) (c .before .before .before .before .before .loop .inv .1)) (c .before .before .step .ensures))
+loop-again c =
+    let s = c .before .before in
+    let l = s .before .before in
+    let l₂ = l .before in
+    let s₂ = l₂ .before .before .before in
+    (omega arith, changed-next _ (s₂ .pre .whole) (l .loop-test .taken) (l₂ .loop .inv .1) _ (s .step .kept .0 ∙ block-size _ (s₂ .pre .whole) (l .loop-test .taken) (l₂ .loop .inv .1)) (s .step .ensures))
 
 same-length : tie.Need-same-length Inv-loop μ-loop
 same-length c = c .before .loop .inv .1 .size
 
 returns : tie.Need-returns Inv-loop μ-loop
-returns c = step-moved (c .before .before .before .before .args .side) (c .before .before .before .before .args .way) (c .before .before .before .before .args .rule) _ _ _ (search needs) (c .before .loop .inv .1)
+returns c =
+    let s = c .before .before .before .before in
+    step-moved (s .args .side) (s .args .way) (s .args .rule) _ _ _ (search needs) (c .before .loop .inv .1)
 
 pub step-all-spec : {M : Type 1} → statement M
 step-all-spec =

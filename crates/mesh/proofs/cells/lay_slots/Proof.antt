@@ -35,19 +35,37 @@ slot-requires : tie.Need-slot-requires Inv-loop μ-loop
 slot-requires c κs = tt
 
 mul-words : tie.Need-mul-words Inv-loop μ-loop
-mul-words c = let s = c .before .before .before .before .before .before .before .before .before in omega (arith, s .pre .0 .inside _ (c .before .before .before .if1 .taken), s .pre .0 .short)
+mul-words c =
+    let i = c .before .before .before in
+    let b = i .before .before .before .before .before in
+    let s = b .before in omega (arith, s .pre .0 .inside _ (i .if1 .taken), s .pre .0 .short)
 
 slice-write-words : tie.Need-slice-write-words Inv-loop μ-loop
-slice-write-words c = let s = c .before .before .before .before .before .before .before .before .before in omega (arith, s .pre .0 .inside _ (c .before .before .before .if1 .taken), c .before .before .before .before .before .loop .inv .0)
+slice-write-words c =
+    let i = c .before .before .before in
+    let l = i .before .before in
+    let b = l .before .before .before in
+    let s = b .before in omega (arith, s .pre .0 .inside _ (i .if1 .taken), l .loop .inv .0)
 
 slice-write-marks : tie.Need-slice-write-marks Inv-loop μ-loop
-slice-write-marks c = let s = c .before .before .before .before .before .before .before .before .before in omega (arith, s .pre .0 .inside _ (c .before .before .before .if1 .taken), c .before .before .before .before .before .loop .inv .1)
+slice-write-marks c =
+    let i = c .before .before .before in
+    let l = i .before .before in
+    let b = l .before .before .before in
+    let s = b .before in omega (arith, s .pre .0 .inside _ (i .if1 .taken), l .loop .inv .1)
 
 mul-aims : tie.Need-mul-aims Inv-loop μ-loop
-mul-aims c = let s = c .before .before .before .before .before .before .before .before .before in omega (arith, s .pre .0 .inside _ (c .before .before .before .if1 .taken), s .pre .0 .short)
+mul-aims c =
+    let i = c .before .before .before in
+    let b = i .before .before .before .before .before in
+    let s = b .before in omega (arith, s .pre .0 .inside _ (i .if1 .taken), s .pre .0 .short)
 
 slice-write-aims : tie.Need-slice-write-aims Inv-loop μ-loop
-slice-write-aims c = let s = c .before .before .before .before .before .before .before .before .before in omega (arith, s .pre .0 .inside _ (c .before .before .before .if1 .taken), c .before .before .before .before .before .loop .inv .2)
+slice-write-aims c =
+    let i = c .before .before .before in
+    let l = i .before .before in
+    let b = l .before .before .before in
+    let s = b .before in omega (arith, s .pre .0 .inside _ (i .if1 .taken), l .loop .inv .2)
 
 add-p : tie.Need-add-p Inv-loop μ-loop
 add-p c = omega (arith, c .before .before .before .if1 .taken, c .before .before .before .before .before .before .before .before .before .pre .0 .few)
@@ -56,17 +74,22 @@ loop-less : tie.Need-loop-less Inv-loop μ-loop
 loop-less c = omega (arith, c .before .before .before .if1 .taken)
 
 loop-again : tie.Need-loop-again Inv-loop μ-loop
-loop-again c = let s = c .before .before .before .before .before .before .before .before .before in
-    let l = c .before .before .before .before .before .loop in
+loop-again c =
+    let i₂ = c .before .before .before in
+    let l₂ = i₂ .before .before in
+    let b = l₂ .before .before .before in
+    let s = b .before in
+    let l = l₂ .loop in
     let i = l .inv in
-    let at = s .pre .0 .inside _ (c .before .before .before .if1 .taken) in
+    let at = s .pre .0 .inside _ (i₂ .if1 .taken) in
     let k = s .args .start + l .p * s .args .t .stride in
     let x = c .slot .result in (
       length-set (l .words) k (x .word) ∙ i .0,
       length-set (l .marks) k (x .mark) ∙ i .1,
       length-set (l .aims) k (x .aim) ∙ i .2,
-      omega (arith, c .before .before .before .if1 .taken),
-      laid-step (s .pre .0 .stride) (c .slot .ensures) (λ j. rec-stored (l .words) (l .marks) (l .aims) k x j (omega (arith, at, i .0)) (omega (arith, at, i .1)) (omega (arith, at, i .2))) (i .4),
+      omega (arith, i₂ .if1 .taken),
+      laid-step (s .pre .0 .stride) (c .slot .ensures)
+          (λ j. rec-stored (l .words) (l .marks) (l .aims) k x j (omega (arith, at, i .0)) (omega (arith, at, i .1)) (omega (arith, at, i .2))) (i .4),
     )
 
 same-length : tie.Need-same-length Inv-loop μ-loop

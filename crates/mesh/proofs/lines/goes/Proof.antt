@@ -18,7 +18,10 @@ gone-requires : tie.Need-gone-requires
 gone-requires c κs = search needs
 
 returns-2 : tie.Need-returns-2
-returns-2 c = λ word. let s = c .before .before .before .before in goes-by (s .pre) (s .args .p) word (s .args .mark) (s .args .aim) (c .before .before .before .if1 .left) (c .before .before .digit .ensures .0) (c .before .distance .ensures) (c .gone .ensures)
+returns-2 c =
+    let b = c .before .before .before in
+    λ word. let s = b .before in goes-by (s .pre) (s .args .p) word (s .args .mark) (s .args .aim) (b .if1 .left) (c .before .before .digit .ensures .0)
+    (c .before .distance .ensures) (c .gone .ensures)
 
 pub goes-spec : {M : Type 1} → statement M
 goes-spec = tie.close (tie.spec returns digit-requires distance-requires gone-requires returns-2)

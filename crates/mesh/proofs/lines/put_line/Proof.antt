@@ -28,19 +28,29 @@ mul-t19 : tie.Need-mul-t19 Inv-loop μ-loop
 mul-t19 c = omega (arith, cell-in (c .loop-test .taken) (c .before .loop .inv .0) (known (c .before .before .before .before .before .pre .0) .most))
 
 array-copy-out-t22 : tie.Need-array-copy-out-t22 Inv-loop μ-loop
-array-copy-out-t22 c = let s = c .before .before .before .before .before in omega (arith, cell-in (c .loop-test .taken) (c .before .loop .inv .0) (known (s .pre .0) .most))
+array-copy-out-t22 c =
+    let b = c .before .before .before .before in
+    let s = b .before in omega (arith, cell-in (c .loop-test .taken) (c .before .loop .inv .0) (known (s .pre .0) .most))
 
 mul-t23 : tie.Need-mul-t23 Inv-loop μ-loop
-mul-t23 c = omega (arith, cell-in (c .before .loop-test .taken) (c .before .before .loop .inv .0) (known (c .before .before .before .before .before .before .pre .0) .most))
+mul-t23 c =
+    let s = c .before .before .before .before .before .before in
+    omega (arith, cell-in (c .before .loop-test .taken) (c .before .before .loop .inv .0) (known (s .pre .0) .most))
 
 array-copy-out-t26 : tie.Need-array-copy-out-t26 Inv-loop μ-loop
-array-copy-out-t26 c = let s = c .before .before .before .before .before .before in omega (arith, cell-in (c .before .loop-test .taken) (c .before .before .loop .inv .0) (known (s .pre .0) .most))
+array-copy-out-t26 c =
+    let b = c .before .before .before .before .before in
+    let s = b .before in omega (arith, cell-in (c .before .loop-test .taken) (c .before .before .loop .inv .0) (known (s .pre .0) .most))
 
 slot-requires : tie.Need-slot-requires Inv-loop μ-loop
 slot-requires c κs = tt
 
 arriving-requires : tie.Need-arriving-requires Inv-loop μ-loop
-arriving-requires c κs = let z = c .before .before .before .before .before .before .before .before .pre .0 in (z, cell-in (c .before .before .before .loop-test .taken) (c .before .before .before .before .loop .inv .0) (known z .most) .0)
+arriving-requires c κs =
+    let l = c .before .before .before in
+    let l₂ = l .before in
+    let s = l₂ .before .before .before .before in
+    let z = s .pre .0 in (z, cell-in (l .loop-test .taken) (l₂ .loop .inv .0) (known z .most) .0)
 
 mul-counts : tie.Need-mul-counts Inv-loop μ-loop
 mul-counts c = omega (arith, c .arriving .ensures .few)
@@ -49,37 +59,62 @@ slice-read-counts : tie.Need-slice-read-counts Inv-loop μ-loop
 slice-read-counts c = omega (arith, c .before .arriving .ensures .few, c .before .before .before .before .before .before .loop .inv .1 .long)
 
 add-counts : tie.Need-add-counts Inv-loop μ-loop
-add-counts c = let s = c .before .before .before .before .before .before .before .before .before .before .before in
+add-counts c =
+    let l₂ = c .before .before .before .before .before .before .before in
+    let b = l₂ .before .before .before in
+    let s = b .before in
     let l = c .before .before .arriving .ensures in
-    omega (arith, settling-few (known (s .pre .0) .most) (c .before .before .before .before .before .before .before .loop .inv .1) _ (l .few), s .pre .1 .room _ (l .few), l .one)
+    omega (arith, settling-few (known (s .pre .0) .most) (l₂ .loop .inv .1) _ (l .few), s .pre .1 .room _ (l .few), l .one)
 
 slice-write-counts : tie.Need-slice-write-counts Inv-loop μ-loop
 slice-write-counts c = omega (arith, c .before .before .arriving .ensures .few, c .before .before .before .before .before .before .before .loop .inv .1 .long)
 
 mul-joined : tie.Need-mul-joined Inv-loop μ-loop
-mul-joined c = omega (arith, c .before .before .arriving .ensures .on, known (c .before .before .before .before .before .before .before .before .before .before .before .pre .0) .most)
+mul-joined c =
+    let s = c .before .before .before .before .before .before .before .before .before .before .before in
+    omega (arith, c .before .before .arriving .ensures .on, known (s .pre .0) .most)
 
 array-copy-out-joined : tie.Need-array-copy-out-joined Inv-loop μ-loop
-array-copy-out-joined c = omega (arith, c .before .before .arriving .ensures .on, known (c .before .before .before .before .before .before .before .before .before .before .before .pre .0) .most, c .before .before .before .before .before .before .before .loop .inv .1 .line-long)
+array-copy-out-joined c =
+    let l = c .before .before .before .before .before .before .before in
+    let s = l .before .before .before .before in
+    omega (arith, c .before .before .arriving .ensures .on, known (s .pre .0) .most, l .loop .inv .1 .line-long)
 
 joined-requires : tie.Need-joined-requires Inv-loop μ-loop
 joined-requires c κs = tt
 
 mul-line : tie.Need-mul-line Inv-loop μ-loop
-mul-line c = omega (arith, c .before .before .before .before .arriving .ensures .on, known (c .before .before .before .before .before .before .before .before .before .before .before .before .before .pre .0) .most)
+mul-line c =
+    let a = c .before .before .before .before in
+    let s = a .before .before .before .before .before .before .before .before .before in
+    omega (arith, a .arriving .ensures .on, known (s .pre .0) .most)
 
 array-set-from-line : tie.Need-array-set-from-line Inv-loop μ-loop
-array-set-from-line c = omega (arith, c .before .before .before .before .arriving .ensures .on, known (c .before .before .before .before .before .before .before .before .before .before .before .before .before .pre .0) .most, c .before .before .before .before .before .before .before .before .before .loop .inv .1 .line-long)
+array-set-from-line c =
+    let a = c .before .before .before .before in
+    let l = a .before .before .before .before .before in
+    let s = l .before .before .before .before in
+    omega (arith, a .arriving .ensures .on, known (s .pre .0) .most, l .loop .inv .1 .line-long)
 
 add-k : tie.Need-add-k Inv-loop μ-loop
-add-k c = omega (arith, c .before .before .before .before .before .before .before .before .loop-test .taken, c .before .before .before .before .before .before .before .before .before .loop .inv .0, known (c .before .before .before .before .before .before .before .before .before .before .before .before .before .pre .0) .most)
+add-k c =
+    let l = c .before .before .before .before .before .before .before .before in
+    let l₂ = l .before in
+    let s = l₂ .before .before .before .before in
+    omega (arith, l .loop-test .taken, l₂ .loop .inv .0, known (s .pre .0) .most)
 
 loop-less : tie.Need-loop-less Inv-loop μ-loop
 loop-less c = omega (arith, c .before .before .before .before .before .before .before .before .loop-test .taken)
 
 loop-again : tie.Need-loop-again Inv-loop μ-loop
-loop-again c = let i = c .before .before .before .before .before .before .before .before .before .loop .inv in
-    (i .0, settling-step (omega (arith, c .before .before .before .before .before .before .before .before .loop-test .taken, i .0)) (known (c .before .before .before .before .before .before .before .before .before .before .before .before .before .pre .0) .most) (c .before .before .before .before .before .slot .ensures) (c .before .before .before .before .arriving .ensures) refl (c .joined .ensures) (i .1))
+loop-again c =
+    let a = c .before .before .before .before in
+    let s = a .before in
+    let l = s .before .before .before in
+    let l₂ = l .before in
+    let s₂ = l₂ .before .before .before .before in
+    let i = l₂ .loop .inv in
+    (i .0, settling-step (omega (arith, l .loop-test .taken, i .0)) (known (s₂ .pre .0) .most) (s .slot .ensures) (a .arriving .ensures) refl (c .joined .ensures) (i .1))
 
 same-length : tie.Need-same-length Inv-loop μ-loop
 same-length c = c .before .loop .inv .1 .long ∙ sym (c .before .before .before .before .before .pre .1 .long)

@@ -7,34 +7,54 @@ use Rattle.mesh.proofs.lines.run_line.Statement.{statement}
 use Rattle.mesh.proofs.lines.run_line.Tie as tie
 
 line-goes-requires : tie.Need-line-goes-requires
-line-goes-requires c κs = let s = c .before .before .before .before .before .before .before .before .before .before .before .pre in let z = s .1 .1 in (s .0, ((z .marks, z .aims), (z .marks2, z .aims2)))
+line-goes-requires c κs =
+    let s₂ = c .before .before .before .before .before .before .before .before .before .before .before in
+    let s = s₂ .pre in let z = s .1 .1 in (s .0, ((z .marks, z .aims), (z .marks2, z .aims2)))
 
 take-slots-requires : tie.Need-take-slots-requires
-take-slots-requires c κs = let s = c .before .before .before .before .before .before .before .before .before .before .before .before .before .before .before .before .pre in let z = s .1 .1 in (s .0 .1, record { words = z .words; marks = z .marks; aims = z .aims })
+take-slots-requires c κs =
+    let s₂ = c .before .before .before .before .before .before .before .before .before .before .before .before .before .before .before .before in
+    let s = s₂ .pre in let z = s .1 .1 in (s .0 .1, record { words = z .words; marks = z .marks; aims = z .aims })
 
 take-slots-requires-2 : tie.Need-take-slots-requires-2
-take-slots-requires-2 c κs = let s = c .before .before .before .before .before .before .before .before .before .before .before .before .before .before .before .before .before .before .before .before .pre in let z = s .1 .1 in (s .0 .1, record { words = z .words2; marks = z .marks2; aims = z .aims2 })
+take-slots-requires-2 c κs =
+    let s₂ = c .before .before .before .before .before .before .before .before .before .before .before .before .before .before .before .before .before .before .before .before in
+    let s = s₂ .pre in let z = s .1 .1 in (s .0 .1, record { words = z .words2; marks = z .marks2; aims = z .aims2 })
 
 put-line-requires : tie.Need-put-line-requires
-put-line-requires c κs = let s = c .before .before .before .before .before .before .before .before .before .before .before .before .before .before .before .before .before .before .before .before .before .before .pre in (s .0 .0, record { long = s .1 .0 .long; room = s .1 .0 .room })
+put-line-requires c κs =
+    let s₂ = c .before .before .before .before .before .before .before .before .before .before .before .before .before .before .before .before .before .before .before .before .before .before in
+    let s = s₂ .pre in (s .0 .0, record { long = s .1 .0 .long; room = s .1 .0 .room })
 
 lay-slots-requires : tie.Need-lay-slots-requires
-lay-slots-requires c κs = let s = c .before .before .before .before .before .before .before .before .before .before .before .before .before .before .before .before .before .before .before .before .before .before .before .before .before .before .before .before .pre in let z = s .1 .1 in (s .0 .1, record { words = z .words; marks = z .marks; aims = z .aims })
+lay-slots-requires c κs =
+    let s₂ = c .before .before .before .before .before .before .before .before .before .before .before .before .before .before .before .before .before .before .before .before .before .before .before .before .before .before .before .before in
+    let s = s₂ .pre in let z = s .1 .1 in (s .0 .1, record { words = z .words; marks = z .marks; aims = z .aims })
 
 lay-slots-requires-2 : tie.Need-lay-slots-requires-2
-lay-slots-requires-2 c κs = let s = c .before .before .before .before .before .before .before .before .before .before .before .before .before .before .before .before .before .before .before .before .before .before .before .before .before .before .before .before .before .before .before .before .before .before .before .before .before .before .pre in let z = s .1 .1 in (s .0 .1, record { words = z .words2; marks = z .marks2; aims = z .aims2 })
+lay-slots-requires-2 c κs =
+    let s₂ = c .before .before .before .before .before .before .before .before .before .before .before .before .before .before .before .before .before .before .before .before .before .before .before .before .before .before .before .before .before .before .before .before .before .before .before .before .before .before in
+    let s = s₂ .pre in let z = s .1 .1 in (s .0 .1, record { words = z .words2; marks = z .marks2; aims = z .aims2 })
 
 same-length : tie.Need-same-length
-same-length c = c .before .before .before .before .before .before .before .before .before .before .before .before .before .before .before .before .before .before .before .before .before .before .put-line .kept .1 .1 .1 .1 .0
+same-length c =
+    let p = c .before .before .before .before .before .before .before .before .before .before .before .before .before .before .before .before .before .before .before .before .before .before in
+    p .put-line .kept .1 .1 .1 .1 .0
 
 same-length-2 : tie.Need-same-length-2
-same-length-2 c = c .before .before .before .before .before .before .before .before .before .before .before .before .before .before .before .before .lay-slots .kept .1 .1 .1 .1 .1 .0
+same-length-2 c =
+    let l = c .before .before .before .before .before .before .before .before .before .before .before .before .before .before .before .before in
+    l .lay-slots .kept .1 .1 .1 .1 .1 .0
 
 same-length-3 : tie.Need-same-length-3
-same-length-3 c = c .before .before .before .before .before .before .before .before .before .before .before .before .before .before .before .before .lay-slots .kept .1 .1 .1 .1 .1 .1 .0
+same-length-3 c =
+    let l = c .before .before .before .before .before .before .before .before .before .before .before .before .before .before .before .before in
+    l .lay-slots .kept .1 .1 .1 .1 .1 .1 .0
 
 same-length-4 : tie.Need-same-length-4
-same-length-4 c = c .before .before .before .before .before .before .before .before .before .before .before .before .before .before .before .before .lay-slots .kept .1 .1 .1 .1 .1 .1 .1 .0
+same-length-4 c =
+    let l = c .before .before .before .before .before .before .before .before .before .before .before .before .before .before .before .before in
+    l .lay-slots .kept .1 .1 .1 .1 .1 .1 .1 .0
 
 same-length-5 : tie.Need-same-length-5
 same-length-5 c = c .before .before .before .before .before .before .lay-slots2 .kept .1 .1 .1 .1 .1 .0
@@ -46,11 +66,20 @@ same-length-7 : tie.Need-same-length-7
 same-length-7 c = c .before .before .before .before .before .before .lay-slots2 .kept .1 .1 .1 .1 .1 .1 .1 .0
 
 returns : tie.Need-returns
-returns c = let s = c .before .before .before .before .before .before .before .before .before .before .before .before .before .before .before .before .before .before .before .before .before .before .before .before .before .before .before .before .before .before .before .before .before .before .before .before .before .before .before .before .before .before .before .before .before in
+returns c =
+    let l = c .before .before .before .before .before .before in
+    let l₂ = l .before .before .before .before .before .before .before .before .before .before in
+    let p = l₂ .before .before .before .before .before .before in
+    let t₂ = p .before .before in
+    let t₃ = t₂ .before .before .before .before in
+    let i = t₃ .before .before .before .before in
+    let l₃ = i .before in
+    let b = l₃ .before .before .before .before .before .before .before .before .before .before .before in
+    let s = b .before in
     let a = s .args in
     let still = still-told (a .t) (a .start) (a .words .now) (a .marks .now) (a .aims .now) (a .spare-words .now) (a .spare-marks .now) (a .spare-aims .now) in
-    ran-moved (c .before .before .before .before .before .before .before .before .before .before .before .before .before .before .before .before .before .before .before .before .before .before .before .before .before .before .before .before .take-slots .result) (c .before .before .before .before .before .before .before .before .before .before .before .before .before .before .before .before .before .before .before .before .before .before .before .before .take-slots2 .result) (s .pre .0 .1 .few) (sym still ∙ not-true _ (sym (c .before .before .before .before .before .before .before .before .before .before .before .before .before .before .before .before .before .before .before .before .before .before .before .before .before .before .before .before .before .before .before .before .before .line-goes .ensures) ∙ c .before .before .before .before .before .before .before .before .before .before .before .before .before .before .before .before .before .before .before .before .before .before .before .before .before .before .before .before .before .before .before .before .if1 .taken))
-    (c .before .before .before .before .before .before .before .before .before .before .before .before .before .before .before .before .before .before .before .before .before .before .before .before .before .before .before .before .take-slots .ensures) (c .before .before .before .before .before .before .before .before .before .before .before .before .before .before .before .before .before .before .before .before .before .before .before .before .take-slots2 .ensures) (c .before .before .before .before .before .before .before .before .before .before .before .before .before .before .before .before .before .before .before .before .before .before .put-line .ensures) (c .before .before .before .before .before .before .before .before .before .before .before .before .before .before .before .before .lay-slots .ensures) (c .before .before .before .before .before .before .lay-slots2 .ensures) refl refl
+    ran-moved (t₃ .take-slots .result) (t₂ .take-slots2 .result) (s .pre .0 .1 .few) (sym still ∙ not-true _ (sym (l₃ .line-goes .ensures) ∙ i .if1 .taken))
+    (t₃ .take-slots .ensures) (t₂ .take-slots2 .ensures) (p .put-line .ensures) (l₂ .lay-slots .ensures) (l .lay-slots2 .ensures) refl refl
 
 same-length-8 : tie.Need-same-length-8
 same-length-8 c = search needs

@@ -65,7 +65,10 @@ shared-slice-read-previous-2 c =
     omega (arith, l .loop-test .taken, s .pre .0)
 
 add-i : tie.Need-add-i Inv-loop μ-loop
-add-i c = omega (arith, c .before .before .before .before .before .before .loop-test .taken, c .before .before .before .before .before .before .before .before .before .before .pre .0)
+add-i c =
+    let l = c .before .before .before .before .before .before in
+    let s = l .before .before .before .before in
+    omega (arith, l .loop-test .taken, s .pre .0)
 
 loop-less : tie.Need-loop-less Inv-loop μ-loop
 loop-less c = omega (arith, c .before .before .before .before .before .before .loop-test .taken)

@@ -11,7 +11,9 @@ returns : tie.Need-returns
 returns c = rw (ne-eqb _ _ (c .if1 .taken))
 
 returns-2 : tie.Need-returns-2
-returns-2 c = let x = c .before .before .before .before .args .c in rw (eq-eqb _ _ (c .before .before .if1 .left), lt-ltb (x .rank) (x .cell) (omega (arith, c .if2 .taken)))
+returns-2 c =
+    let s = c .before .before .before .before in
+    let x = s .args .c in rw (eq-eqb _ _ (c .before .before .if1 .left), lt-ltb (x .rank) (x .cell) (omega (arith, c .if2 .taken)))
 
 wide-requires : tie.Need-wide-requires
 wide-requires c κs = tt
@@ -20,19 +22,24 @@ is-cell-requires : tie.Need-is-cell-requires
 is-cell-requires c κs = tt
 
 returns-3 : tie.Need-returns-3
-returns-3 c = let s = c .before .before .before .before .before .before .before .args in
+returns-3 c =
+    let i = c .before .before .before in
+    let i₂ = i .before .before in
+    let s₂ = i₂ .before .before in
+    let s = s₂ .args in
     let e : isCell (s .side) (s .c .aim) ≡ false = ap (isCell (s .side)) (sym (c .before .before .wide .ensures)) ∙ sym (c .before .is-cell .ensures) ∙ not-true _ (c .if3 .taken) in
-    rw (eq-eqb _ _ (c .before .before .before .before .before .if1 .left), le-ltb (s .c .rank) (s .c .cell) (omega (arith, c .before .before .before .if2 .left)), e)
+    rw (eq-eqb _ _ (i₂ .if1 .left), le-ltb (s .c .rank) (s .c .cell) (omega (arith, i .if2 .left)), e)
 
 returns-4 : tie.Need-returns-4
 returns-4 c =
-    let i = c .before .before .before in
+    let b = c .before .before in
+    let i = b .before in
     let w = i .before in
     let i₂ = w .before in
     let i₃ = i₂ .before .before in
     let s₂ = i₃ .before .before in
     let s = s₂ .args in
-    let e : isCell (s .side) (s .c .aim) ≡ true = ap (isCell (s .side)) (sym (w .wide .ensures)) ∙ sym (i .is-cell .ensures) ∙ not-false _ (c .before .before .if3 .left) in
+    let e : isCell (s .side) (s .c .aim) ≡ true = ap (isCell (s .side)) (sym (w .wide .ensures)) ∙ sym (i .is-cell .ensures) ∙ not-false _ (b .if3 .left) in
     rw (eq-eqb _ _ (i₃ .if1 .left), le-ltb (s .c .rank) (s .c .cell) (omega (arith, i₂ .if2 .left)), e, le-ltb 0 (s .c .cell) (omega (arith, c .if4 .taken)))
 
 returns-5 : tie.Need-returns-5

@@ -46,7 +46,9 @@ loop-less : tie.Need-loop-less Inv-loop μ-loop
 loop-less c = search needs
 
 loop-again : tie.Need-loop-again Inv-loop μ-loop
-loop-again c = cutting-next (record { step = Swap; times = 0 }) (omega arith) (c .before .before .loop-test .taken) (c .least .ensures) (c .before .before .before .loop .inv)
+loop-again c =
+    let l = c .before .before .before in
+    cutting-next (record { step = Swap; times = 0 }) (omega arith) (c .before .before .loop-test .taken) (c .least .ensures) (l .loop .inv)
 
 returns : tie.Need-returns Inv-loop μ-loop
 returns c = cutting-end (omega arith) (c .loop-test .left) (c .before .loop .inv)

@@ -20,7 +20,9 @@ digits-requires : tie.Need-digits-requires
 digits-requires c κs = search needs
 
 returns-3 : tie.Need-returns-3
-returns-3 c = c .digits .ensures ∙ number-digits _ (c .before .before .before .if1 .left) (λ z. ⊎-elim (λ w. w .1 .left) (λ w. absurd (w .left z)) (c .before .if2 .came))
+returns-3 c =
+    let i = c .before .before .before in
+    c .digits .ensures ∙ number-digits _ (i .if1 .left) (λ z. ⊎-elim (λ w. w .1 .left) (λ w. absurd (w .left z)) (c .before .if2 .came))
 
 pub number-of-spec : {M : Type 1} → statement M
 number-of-spec =

@@ -35,7 +35,8 @@ refusing-lane-requires c κs = search needs
 
 returns : tie.Need-returns
 returns c =
-    let l = c .before .before in
+    let b = c .before in
+    let l = b .before in
     let k = l .before .before .before in
     let s = k .before .before in
     let a = s .args in
@@ -43,7 +44,7 @@ returns c =
     let listed = k .before .shift-runs .ensures ∙ ap (λ (d : ℤ). shiftRuns (a .side) (a .axis) (a .edge) d) read in
     let near = case-before (l .before .refusing .ensures) (rw read at (k .distance-case .ensures)) (l .before .before .accepted-by .ensures ∙ ap acceptedBy listed) in
     let room = l .log-case .ensures ∙ ap (λ (rs : List Run). logCase rs (a .log)) listed in
-    lane-before (a .side) (a .length) (c .refusing-lane .ensures) (case-before (c .before .refusing2 .ensures) room near)
+    lane-before (a .side) (a .length) (c .refusing-lane .ensures) (case-before (b .refusing2 .ensures) room near)
 
 pub judge-shift-spec : {M : Type 1} → statement M
 judge-shift-spec =

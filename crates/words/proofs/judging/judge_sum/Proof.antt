@@ -18,9 +18,10 @@ refusing-lane-requires c κs = search needs
 
 returns : tie.Need-returns
 returns c =
-    let l = c .before .before .before in
+    let b = c .before .before in
+    let l = b .before in
     let a = l .before .args in
-    lane-before (a .side) (a .length) (c .refusing-lane .ensures) (case-before (c .before .refusing .ensures) (l .log-case .ensures) (c .before .before .accepted-by .ensures))
+    lane-before (a .side) (a .length) (c .refusing-lane .ensures) (case-before (c .before .refusing .ensures) (l .log-case .ensures) (b .accepted-by .ensures))
 
 pub judge-sum-spec : {M : Type 1} → statement M
 judge-sum-spec =
