@@ -4,6 +4,7 @@ use array::moves::Logged;
 use array::moves::Move;
 use array::moves::Way;
 use array::moves::log_line;
+use laws::least;
 use printing::put;
 use printing::put_field;
 use runs::electronic_in;
@@ -124,12 +125,6 @@ fn put_records(out: &mut [u8], at: usize, words: &[u32]) -> usize
         i += 1;
     }
     end
-}
-
-fn least(a: usize, b: usize) -> usize
-    ensures { λ r. ⌜ r ≡ min a b ⌝ }
-{
-    if a < b { a } else { b }
 }
 
 // The whole answer: the log's moves, what they add up to, and the records, whose words stand in the first cells.

@@ -44,7 +44,7 @@ content-same zero R h j = refl
 content-same (suc b) R h j = rw (h b (omega arith), content-same b R (λ r u. h r (omega arith)) j)
 
 pub shows-same : {s b : ℕ} {R : ℕ → Rec} {pos post : ℕ → ℕ} {T : ℕ → Cell} → ((r : ℕ) → r < b → pos r ≡ post r) → Shows s b R pos T → Shows s b R post T
-shows-same {s} {b} {R} h z = record { cells = λ j u. z .cells j u ∙ content-same b R h j }
+shows-same {s} {b} {R} h z = record { shown = λ j u. z .shown j u ∙ content-same b R h j }
 
 changed-same : (b : ℕ) {pos pos′ post post′ : ℕ → ℕ} → ((r : ℕ) → r < b → pos r ≡ pos′ r) → ((r : ℕ) → r < b → post r ≡ post′ r) → changed b pos post ≡ changed b pos′ post′
 changed-same b h g = sum-cong b (λ r u. ap₂ (λ (i j : ℕ). cond (eqb i j) 0 1) (h r u) (g r u))
@@ -92,8 +92,8 @@ module _ {trip : Trip} {s b swaps times m : ℕ} {R : ℕ → Rec} {pos : ℕ �
   unfolding swapped
   swaps-show c zero l = o
   swaps-show c (suc k) l = record {
-    cells = λ j u.
-        swaps-show c k (omega arith) .cells (partner s j) (partner-in some j u)
+    shown = λ j u.
+        swaps-show c k (omega arith) .shown (partner s j) (partner-in some j u)
         ∙ content-swapped some b R (pos k) (c .inside k (omega arith)) j u
         ∙ content-same b R (λ r v. sym (c .next k l r v)) j;
   }
@@ -108,7 +108,7 @@ module _ {trip : Trip} {s b swaps times m : ℕ} {R : ℕ → Rec} {pos : ℕ �
   run-shows : (x : Move) → Part trip s x swaps times m b R pos → Shows s b R (pos m) (ranBy trip s swaps x times m T)
   run-shows Swap c = swaps-show c m (omega arith)
   run-shows (Electronic w) c = record {
-    cells = λ j u. ran-same leg some _ (contentOf b R (pos 0)) (o .cells) j u ∙ ran-content runs j;
+    shown = λ j u. ran-same leg some _ (contentOf b R (pos 0)) (o .shown) j u ∙ ran-content runs j;
   }
     where
       leg : Leg
@@ -126,11 +126,11 @@ module _ {trip : Trip} {s b swaps times m : ℕ} {R : ℕ → Rec} {pos : ℕ �
 
   run-counts : (x : Move) → Part trip s x swaps times m b R pos → (k : ℕ) → k < m → goneBy trip s swaps x times k T ≡ changed b (pos k) (pos (suc k))
   run-counts Swap c k l =
-      sum-cong (cells s) (λ i u. ap (λ (c : Cell). cond (eqb (partner s i) i) 0 (marksIn c)) (swaps-show c k (omega arith) .cells i u))
+      sum-cong (cells s) (λ i u. ap (λ (c : Cell). cond (eqb (partner s i) i) 0 (marksIn c)) (swaps-show c k (omega arith) .shown i u))
       ∙ swap-count s (c .rising) (c .fits k (omega arith)) (c .inside k (omega arith))
       ∙ changed-same b (λ r u. refl) (λ r u. sym (c .next k l r u))
   run-counts (Electronic w) c k l =
-      sum-cong (cells s) (λ i u. ap (gone i) (o .cells i u))
+      sum-cong (cells s) (λ i u. ap (gone i) (o .shown i u))
       ∙ run-count (legOf trip s swaps w times times) some (c .rising) (c .fits 0 (omega arith)) (c .inside 0 (omega arith)) k
       ∙ changed-same b (λ r u. sym (came times k c (omega arith) r u)) (λ r u. sym (came times (suc k) c l r u))
     where

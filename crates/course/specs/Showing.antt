@@ -16,7 +16,7 @@ contentOf (suc b) R pos j = cond (eqb (pos b) j) (joined (contentOf b R pos j) (
 
 -- the cells of a board hold just these records
 pub record Shows (s b : ℕ) (R : ℕ → Rec) (pos : ℕ → ℕ) (T : ℕ → Cell) : Type 0 where
-  pub cells : (j : ℕ) → j < cells s → T j ≡ contentOf b R pos j
+  pub shown : (j : ℕ) → j < cells s → T j ≡ contentOf b R pos j
 
 -- how many of b records are in another cell afterwards
 abbrev pub changed : ℕ → (ℕ → ℕ) → (ℕ → ℕ) → ℕ

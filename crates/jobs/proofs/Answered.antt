@@ -24,7 +24,7 @@ use mir.Syntax.{w64}
 use mir.Val.{Fits}
 use Rattle.jobtext.proofs.Cells.{square-fits, cells-fit}
 use Rattle.jobtext.proofs.Accepted.{Rising, Known, known, few as few-cells}
-use Rattle.jobs.specs.Outputs.{homeOf, wordsIn, movedCounts as jobCounts, outputOf}
+use Rattle.jobs.specs.Outputs.{homeOf, wordsIn, jobCounts, outputOf}
 use Rattle.jobs.specs.Filled.{Filled, printedOf, refusalOf}
 use Rattle.jobs.specs.Inside.{Settled, JobLanes, lanesText}
 use Rattle.jobs.proofs.Ranks.{laneIn, laid-long, home-in, ranked, all-marked, home-value, home-marked, marks-small}

@@ -25,7 +25,7 @@ use Rattle.records.proofs.Marked.{fits-alone, start-rises, start-inside, start-
 -- where each record stands in the cell of its own number it stands there alone
 own-cell : {s b : ℕ} {R : ℕ → Rec} {T : ℕ → Cell} → Rising b R → Shows s b R (λ r. r) T → (r : ℕ) → r < b → r < cells s → T r ≡ alone (R r)
 own-cell z o r h u =
-    o .cells r u ∙ holds-one (content-holds z (λ k. k) (fits-alone (λ i j v l e. omega arith)) r) (hold1 r refl (h, refl) (λ k q. q .1))
+    o .shown r u ∙ holds-one (content-holds z (λ k. k) (fits-alone (λ i j v l e. omega arith)) r) (hold1 r refl (h, refl) (λ k q. q .1))
 
 module _ (s : ℕ) (some : 0 < s) (words marks aims : List ℕ) (long : length marks ≡ cells s) (good : Good Concentrate s marks aims) where
   pub word-there : {T : ℕ → Cell} → Stood Concentrate s (totalMoves s) words marks aims T → (r : ℕ) → r < countIn s marks → r < cells s

@@ -24,10 +24,10 @@ abbrev pub movedIn : ℕ → List Marked → ℕ → ℕ
 movedIn s es k = sum (length es) (λ r. cond (eqb (stands s k r (homeOf es r)) (stands s (suc k) r (homeOf es r))) 0 1)
 
 -- the moved counts of all its moves
-abbrev pub movedCounts : ℕ → List Marked → List ℕ
-movedCounts s es = entries (movedIn s es) 0 (length (concentrateMoves s))
+abbrev pub jobCounts : ℕ → List Marked → List ℕ
+jobCounts s es = entries (movedIn s es) 0 (length (concentrateMoves s))
 
 -- the output of a verdict: of a job the moves of concentrate, and its records in their order
 unfoldable pub outputOf : Verdict → List ℕ
-outputOf (accepted s es) = answerText (codes (concentrateRuns s)) (movedCounts s es) (wordsIn es)
+outputOf (accepted s es) = answerText (codes (concentrateRuns s)) (jobCounts s es) (wordsIn es)
 outputOf (refused n p) = refusedText n p

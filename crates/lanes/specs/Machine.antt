@@ -61,8 +61,8 @@ abbrev pub made : {R : Type 0} → ℕ → List (Stage R) → State R → State 
 made s [] σ = σ
 made s (t ∷ ts) σ = made s ts (all s t σ)
 
-abbrev pub runsOf : {R : Type 0} → List (Stage R) → List Run
-runsOf ts = map (λ t. t .run) ts
+abbrev pub stageRuns : {R : Type 0} → List (Stage R) → List Run
+stageRuns ts = map (λ t. t .run) ts
 
 -- the cell in row a and column b of the group in row c and column d
 abbrev pub at : ℕ → ℕ → ℕ → ℕ → ℕ → ℕ

@@ -1,6 +1,7 @@
 // Electronic moves of one lane: in a group's own stretch, in all groups, and in runs.
 use crate::Joining;
 use array::moves::Way;
+use laws::over;
 use sums::plus;
 ghost use mathlib.Core.Path.{_≡_};
 ghost use mathlib.Core.Bool.{cond};
@@ -38,13 +39,6 @@ const NO_LINE: Line = Line {
     apart: 1,
     count: 0,
 };
-
-// a − b, or 0 where b is more.
-fn less(a: usize, b: usize) -> usize
-    ensures { λ r. ⌜ r ≡ a - b ⌝ }
-{
-    if b <= a { a - b } else { 0 }
-}
 
 // The position before p.
 fn earlier(p: usize) -> Source
@@ -258,8 +252,8 @@ fn steps_on(way: Way, e: usize, k: usize) -> usize
 {
     match way {
         Way::Right => e + k,
-        Way::Left => less(e, k),
-        Way::Up => less(e, k),
+        Way::Left => over(e, k),
+        Way::Up => over(e, k),
         Way::Down => e + k,
     }
 }

@@ -34,7 +34,7 @@ use Rattle.mesh.proofs.Legs.{stride-pos, ran-same}
 use Rattle.mesh.proofs.Counting.{gone-by-went, gone-made, gone-few, went-few}
 use Rattle.mover.specs.declared.Tally.{Tally}
 use Rattle.mover.specs.Runs.{isLate, legOf, swapped, ranBy, goneBy, madeOf, after, movedLog, Ran}
-use Rattle.mover.specs.Inside.{legIn, movers, movedIn, FewWent, leaving, Made, RanRun}
+use Rattle.mover.specs.Inside.{legIn, movers, tallied, FewWent, leaving, Made, RanRun}
 use Rattle.mover.proofs.Swapping.{leaving-few, leaving-same, leaving-swaps, swaps-same}
 
 -- counts put into the log, from a place on
@@ -113,7 +113,7 @@ module _ (trip : Trip) (s : ℕ) (side : isSide s ≡ true) (swaps times m : ℕ
   idle-ran : (i : ℕ) → ranOn (lineRuleOf idle) T i ≡ T i
   idle-ran i = leg-nothing (lineRuleOf idle) none T i pos (stride-pos (side-known s side) Right)
 
-  pub counts-are : (x : Move) {t : Tally} {T′ : ℕ → Cell} → Made (legIn trip s swaps x times m) (swapsIn x m) t T T′ → (j : ℕ) → j < m → movedIn (isLate trip) times t j ≡ goneBy trip s swaps x times j T
+  pub counts-are : (x : Move) {t : Tally} {T′ : ℕ → Cell} → Made (legIn trip s swaps x times m) (swapsIn x m) t T T′ → (j : ℕ) → j < m → tallied (isLate trip) times t j ≡ goneBy trip s swaps x times j T
   counts-are (Electronic w) {t} z j h =
       let l = legOf trip s swaps w times m in
       let e : movers (isLate trip) times (t .went) j ≡ goneIn (lineRuleOf l) j T =
@@ -133,7 +133,7 @@ module _ (trip : Trip) (s : ℕ) (side : isSide s ≡ true) (swaps times m : ℕ
   gone-most Swap j = leaving-few s side (swapped s j T)
   gone-most (Electronic w) j = omega (arith, gone-few (legOf trip s swaps w times times) j T, side-known s side .cells-few)
 
-  pub counts-few : (x : Move) {t : Tally} {T′ : ℕ → Cell} → Made (legIn trip s swaps x times m) (swapsIn x m) t T T′ → (j : ℕ) → j < m → movedIn (isLate trip) times t j ≤ 65535
+  pub counts-few : (x : Move) {t : Tally} {T′ : ℕ → Cell} → Made (legIn trip s swaps x times m) (swapsIn x m) t T T′ → (j : ℕ) → j < m → tallied (isLate trip) times t j ≤ 65535
   counts-few x {t} z j h = omega (arith, counts-are x z j h, gone-most x j)
 
   made-are : (x : Move) {t : Tally} {T′ : ℕ → Cell} → Made (legIn trip s swaps x times m) (swapsIn x m) t T T′ → (i : ℕ) → i < cells s → T′ i ≡ ranBy trip s swaps x times m T i
@@ -142,7 +142,7 @@ module _ (trip : Trip) (s : ℕ) (side : isSide s ≡ true) (swaps times m : ℕ
   made-are Swap z i h = z .made i h ∙ swaps-same s pos m (λ i u. idle-ran i) i h
 
   pub run-made : (x : Move) {t : Tally} {T′ : ℕ → Cell} {from : ℕ} {moved moved′ : List ℕ} → Made (legIn trip s swaps x times m) (swapsIn x m) t T T′
-      → moved′ ≡ sets moved from (entries (movedIn (isLate trip) times t) 0 m) → RanRun trip s swaps x times m from T T′ moved moved′
+      → moved′ ≡ sets moved from (entries (tallied (isLate trip) times t) 0 m) → RanRun trip s swaps x times m from T T′ moved moved′
   run-made x {t} {from = from} {moved} z e = record { made = made-are x z; log = e ∙ ap (sets moved from) (entries-cong m (counts-are x z)) }
 
 gone-cong : (l : Leg) (j : ℕ) {T U : ℕ → Cell} → ((i : ℕ) → i < cells (l .side) → T i ≡ U i) → goneIn (lineRuleOf l) j T ≡ goneIn (lineRuleOf l) j U

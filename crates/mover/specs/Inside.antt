@@ -37,8 +37,8 @@ abbrev pub movers : Bool → ℕ → List ℕ → ℕ → ℕ
 movers late times went j = sum 8 (λ d. cond (goesIn late times j d) (getD went d 0) 0)
 
 -- how many records move j took to another cell
-abbrev pub movedIn : Bool → ℕ → Tally → ℕ → ℕ
-movedIn late times t j = movers late times (t .went) j + t .swapped
+abbrev pub tallied : Bool → ℕ → Tally → ℕ → ℕ
+tallied late times t j = movers late times (t .went) j + t .swapped
 
 -- no more than there are slots
 pub record FewWent (went : List ℕ) : Type 0 where

@@ -22,7 +22,7 @@ ghost use Rattle.array.specs.Cells.{isSide, cells};
 ghost use Rattle.slots.specs.Lanes.{FromTo, Long};
 ghost use Rattle.mesh.specs.Lines.{goesIn};
 ghost use Rattle.mover.specs.Runs.{lowAfter, isLate, RanList};
-ghost use Rattle.mover.specs.Inside.{wayOf, legIn, movers as moversOf, movedIn, FewWent, Made};
+ghost use Rattle.mover.specs.Inside.{wayOf, legIn, movers as moversOf, tallied, FewWent, Made};
 
 // Whether a record heads for its aim mod N after so many swaps.
 fn low_after(trip: Trip, swaps: usize) -> bool
@@ -118,8 +118,8 @@ struct Tally {
 // Writes the counts of the moves of a run that are made, from a place of the log on.
 fn log_run(late: bool, times: usize, made: usize, from: usize, tally: Tally, moved: &mut [u16])
     requires { ⌜ FewWent (tally .went) × (from + made < 18446744073709551616) ⌝ }
-    requires { ⌜ ((j : ℕ) → j < made → movedIn late times tally j ≤ 65535) ⌝ }
-    ensures { λ _. ⌜ new moved ≡ sets (old moved) from (entries (movedIn late times tally) 0 made) ⌝ }
+    requires { ⌜ ((j : ℕ) → j < made → tallied late times tally j ≤ 65535) ⌝ }
+    ensures { λ _. ⌜ new moved ≡ sets (old moved) from (entries (tallied late times tally) 0 made) ⌝ }
 {
     let went = tally.went;
     let mut j: usize = 0;

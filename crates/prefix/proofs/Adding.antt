@@ -9,7 +9,7 @@ use lib.ListN.{getD}
 use Rattle.laws.specs.Sums.{sum}
 use Rattle.array.specs.declared.moves.Way.the-variants.{Right, Left, Up, Down}
 use Rattle.lists.specs.Lists.{prefixSumRuns}
-use Rattle.lanes.specs.Machine.{State, all, runsOf, at, load, unload}
+use Rattle.lanes.specs.Machine.{State, all, stageRuns, at, load, unload}
 use Rattle.sums.specs.Sums.{plus, minus}
 use Rattle.lanes.specs.Stages.{from, light, copy}
 use Rattle.prefix.specs.Programs.{Sums, loadSums, addRow, addColumn, takeGroup, addGroups, addGroupRows, rowsAbove, takeAbove, groupsBefore, takeBefore, rowBefore, takeRow, prefixSum, prefixed}
@@ -318,5 +318,5 @@ pub prefixSum-all : (s : ℕ) (l : List ℕ) → 1 ≤ s → ((i : ℕ) → getD
 prefixSum-all s l pos small = ap (unload s) (prefixSum-lanes s (load s l)) ∙ P₉-sums s l pos small
 
 -- the moves that the program makes are those of the list
-pub prefixSum-moves : (s : ℕ) → runsOf (prefixSum s) ≡ prefixSumRuns s
+pub prefixSum-moves : (s : ℕ) → stageRuns (prefixSum s) ≡ prefixSumRuns s
 prefixSum-moves s = refl

@@ -20,7 +20,7 @@ use Rattle.lists.specs.Lists.{totalMoves}
 use Rattle.refusals.specs.Cases.{Good}
 use Rattle.records.specs.Records.{markedCell, countIn, recordOf, cellOf}
 use Rattle.records.specs.Entries.{Stood}
-use Rattle.refusals.proofs.Aims.{Ranked, Aimed, good-ranked, good-aimed}
+use Rattle.refusals.proofs.Aims.{RankedAims, Aimed, good-ranked, good-aimed}
 use Rattle.records.proofs.Marked.{start-rises, start-inside, start-rising, first-rising, rank-past, cell-of, found}
 use Rattle.records.proofs.Demand3.{Slot, Front, Spare, slot, holds, end-alone, distribute-alone, distribute-empty}
 
@@ -50,7 +50,7 @@ alike {Q = Q} u (hold2 i j e l p q n) (hold2 i′ j′ e′ l′ p′ q′ n′)
 module _ {s : ℕ} (pos : 0 < s) {marks aims marks₂ aims₂ : List ℕ} (long : length marks ≡ cells s) (long₂ : length marks₂ ≡ cells s)
     (good : Good Concentrate s marks aims) (good₂ : Good Distribute s marks₂ aims₂) (as-many : countIn s marks₂ ≡ countIn s marks)
     (back : (r : ℕ) → r < countIn s marks → getD aims₂ r 0 ≡ markedCell marks (cells s) r) (words words₂ : List ℕ) where
-  ranked : Ranked s marks aims
+  ranked : RankedAims s marks aims
   ranked = good-ranked s marks aims long good
 
   aimed : Aimed s (countIn s marks₂) marks₂ aims₂

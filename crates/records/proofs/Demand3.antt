@@ -2,7 +2,7 @@
 -- that were marked at the start, each once with its word and rank, each in the cell that the move rule gives; no cell holds more than two; at the end the record of
 -- rank r stands by itself in cell r; and the list has exactly 7(s − 1) electronic moves and two by light.
 -- A cell's slots are its front lanes and its spare lanes. What concentrate promises of its lanes after n moves is `Stood Concentrate s n` (specs/Entries.antt), so each
--- theorem here begins from that promise, and from marks and aims that were not refused, `Good` (what that is for concentrate says `Ranked`).
+-- theorem here begins from that promise, and from marks and aims that were not refused, `Good` (what that is for concentrate says `RankedAims`).
 use Prim.Native.Nat.{ℕ, _-_, _*_, _≤_, _<_}
 use mathlib.Core.Path.{_≡_, refl, sym, ap, _∙_}
 use mathlib.Core.Logic.{_⊎_, inl, inr, ⊎-elim}
@@ -37,7 +37,7 @@ use Rattle.refusals.specs.Cases.{Good}
 use Rattle.records.specs.Records.{markedCell, countIn, recordOf, cellOf}
 use Rattle.records.specs.Entries.{Stood, sizesOf, FullRun, CutRun}
 use Rattle.refusals.proofs.Verdicting.{FullKnown, full-known, cut-known}
-use Rattle.refusals.proofs.Aims.{Ranked, Aimed, good-ranked, good-aimed}
+use Rattle.refusals.proofs.Aims.{RankedAims, Aimed, good-ranked, good-aimed}
 use Rattle.records.proofs.Marked.{start-rises, start-inside, start-aims, start-rising, cell-of, rank-past, Found, found, first-rising, aims-rise, fits-alone}
 
 -- the slots of a cell: the front lanes, or the spare ones
@@ -75,9 +75,9 @@ module _ {s b : ℕ} {R : ℕ → Rec} {pos : ℕ → ℕ} {T : ℕ → Cell} (z
   holds j u = go (content-holds z pos f j)
     where
       go : Holds R (At b pos j) (contentOf b R pos j) → Holds R (At b pos j) (T j)
-      go (hold0 e n) = hold0 (o .cells j u ∙ e) n
-      go (hold1 i e p n) = hold1 i (o .cells j u ∙ e) p n
-      go (hold2 i k e l p q n) = hold2 i k (o .cells j u ∙ e) l p q n
+      go (hold0 e n) = hold0 (o .shown j u ∙ e) n
+      go (hold1 i e p n) = hold1 i (o .shown j u ∙ e) p n
+      go (hold2 i k e l p q n) = hold2 i k (o .shown j u ∙ e) l p q n
 
   marked-not : (r : ℕ) → r < b → nothing ≡ R r → ⊥
   marked-not r h e = omega (arith, z .marked r h, ap (λ (x : Rec). x .mark) e)
@@ -145,14 +145,14 @@ module _ {s b : ℕ} {R : ℕ → Rec} {pos : ℕ → ℕ} {T : ℕ → Cell} (z
   only r k h u e = ⊎-elim (λ l. absurd (omega (arith, up k r l h))) (λ l. ⊎-elim (λ m. absurd (omega (arith, up r k m u))) (λ m. omega arith) (apart r k)) (apart k r)
 
   alone-at : (r : ℕ) → r < b → pos r < cells s → T (pos r) ≡ alone (R r)
-  alone-at r h u = o .cells (pos r) u ∙ holds-one (content-holds z pos apart-fits (pos r)) (hold1 r refl (h, refl) (λ k q. only r k h (q .0) (q .1)))
+  alone-at r h u = o .shown (pos r) u ∙ holds-one (content-holds z pos apart-fits (pos r)) (hold1 r refl (h, refl) (λ k q. only r k h (q .0) (q .1)))
 
   none-at : (j : ℕ) → j < cells s → ((r : ℕ) → r < b → pos r ≡ j → ⊥) → T j ≡ empty
-  none-at j u n = o .cells j u ∙ holds-one (content-holds z pos apart-fits j) (hold0 refl (λ k q. n k (q .0) (q .1)))
+  none-at j u n = o .shown j u ∙ holds-one (content-holds z pos apart-fits j) (hold0 refl (λ k q. n k (q .0) (q .1)))
 
 -- the records of concentrate
 module _ {s : ℕ} (pos : 0 < s) {marks aims : List ℕ} (long : length marks ≡ cells s) (good : Good Concentrate s marks aims) (words : List ℕ) where
-  ranked : Ranked s marks aims
+  ranked : RankedAims s marks aims
   ranked = good-ranked s marks aims long good
 
   -- they are those of the marked cells, each once: record r is that of the marked cell of rank r, with its word, and its aim is r

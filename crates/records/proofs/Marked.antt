@@ -20,7 +20,7 @@ use Rattle.course.proofs.Content.{Rising, Fits, At, content-holds}
 use Rattle.marks.specs.Marks.{rankIn}
 use Rattle.refusals.specs.Cases.{marked}
 use Rattle.records.specs.Records.{markedCell}
-use Rattle.refusals.proofs.Aims.{Ranked, Aimed}
+use Rattle.refusals.proofs.Aims.{RankedAims, Aimed}
 
 module _ (marks : List ℕ) where
   -- ranks rise over marked cells
@@ -82,7 +82,7 @@ module _ (s : ℕ) (words marks aims : List ℕ) where
   here = recordIn words marks aims
 
   -- the marked cells of lanes that concentrate takes
-  module _ (z : Ranked s marks aims) where
+  module _ (z : RankedAims s marks aims) where
     abbrev b : ℕ
     b = rankIn marks (cells s)
 

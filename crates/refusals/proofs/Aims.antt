@@ -28,11 +28,11 @@ not-is true h = refl
 not-is false h = absurd (let z : _≡_ {A = ℕ} 0 1 = cc in omega arith)
 
 -- what concentrate asks: every marked cell's aim is its rank
-pub record Ranked (s : ℕ) (marks aims : List ℕ) : Type 0 where
+pub record RankedAims (s : ℕ) (marks aims : List ℕ) : Type 0 where
   pub mark : (i : ℕ) → i < cells s → getD marks i 0 ≤ 1
   pub rank : (i : ℕ) → i < cells s → getD marks i 0 ≡ 1 → getD aims i 0 ≡ rankIn marks i
 
-pub good-ranked : (s : ℕ) (marks aims : List ℕ) → length marks ≡ cells s → Good Concentrate s marks aims → Ranked s marks aims
+pub good-ranked : (s : ℕ) (marks aims : List ℕ) → length marks ≡ cells s → Good Concentrate s marks aims → RankedAims s marks aims
 good-ranked s marks aims n z = record {
   mark = λ i h. omega (arith, z .marks-good i (omega arith));
   rank = λ i h e. eqb-true (getD aims i 0) (rankIn marks i) (not-is _ (and-false (eqb (getD marks i 0) 1) _ (z .aims-good i (omega arith)) (eq-eqb (getD marks i 0) 1 e)));

@@ -20,7 +20,7 @@ use Rattle.array.specs.Moves.{opposite}
 use Rattle.runs.specs.Runs.{moves, along}
 use Rattle.shiftlists.specs.declared.Distance.{Distance}
 use Rattle.shiftlists.specs.Shifts.{distanceOf, within, modulo, forthMoves, backMoves, shiftList}
-use Rattle.lanes.specs.Machine.{State, Stage, fromBefore, fromAfter, ran, all, runsOf, load, unload}
+use Rattle.lanes.specs.Machine.{State, Stage, fromBefore, fromAfter, ran, all, stageRuns, load, unload}
 use Rattle.lanes.specs.Stages.{position, filled}
 use Rattle.shifts.specs.Programs.{Shifting, loadShift, forth, takesBack, back, shift, shiftedBy}
 use Rattle.shifts.specs.Results.{cameFrom, wordFrom, shifted, shiftWords}
@@ -203,5 +203,5 @@ pub shift-all : (s : ℕ) (axis : Axis) (edge : Edge) (k : ℤ) (l : List ℕ) �
 shift-all s axis edge k l least h = ap (unload s) (shift-lane s axis edge (distanceOf k) (load s l)) ∙ shift-words s axis edge k l least h
 
 -- the moves that the program makes are those of the list
-pub shift-moves : (s : ℕ) (axis : Axis) (edge : Edge) (k : ℤ) → moves (runsOf (shift s axis edge (distanceOf k))) ≡ moves (shiftList axis (forthMoves edge s (distanceOf k)) (backMoves edge s (distanceOf k)))
+pub shift-moves : (s : ℕ) (axis : Axis) (edge : Edge) (k : ℤ) → moves (stageRuns (shift s axis edge (distanceOf k))) ≡ moves (shiftList axis (forthMoves edge s (distanceOf k)) (backMoves edge s (distanceOf k)))
 shift-moves s axis edge k = refl

@@ -10,7 +10,7 @@ use Rattle.laws.specs.Sums.{sum}
 use Rattle.array.specs.Cells.{cells, group, row, column}
 use Rattle.lists.specs.Lists.{broadcastList, dataSumRuns}
 use Rattle.array.specs.declared.moves.Way.the-variants.{Right, Left, Up, Down}
-use Rattle.lanes.specs.Machine.{State, Rule, fromBefore, fromAfter, all, made, runsOf, at, load, unload}
+use Rattle.lanes.specs.Machine.{State, Rule, fromBefore, fromAfter, all, made, stageRuns, at, load, unload}
 use Rattle.sums.specs.Sums.{plus}
 use Rattle.lanes.specs.Stages.{front, copy}
 use Rattle.spreads.specs.Programs.{spread, broadcast, groupSum, dataSum}
@@ -103,8 +103,8 @@ dataSum-all s l pos small = unload-same s (made s (dataSum s) (load s l)) _ pos 
     ∙ ap (λ n. n % (2 ^ 32)) (sym (sum-cells s (λ i. getD l i 0))))
 
 -- the moves that the programs make are those of the lists
-pub broadcast-moves : (s i : ℕ) → runsOf (broadcast s i) ≡ broadcastList s i
+pub broadcast-moves : (s i : ℕ) → stageRuns (broadcast s i) ≡ broadcastList s i
 broadcast-moves s i = refl
 
-pub dataSum-moves : (s : ℕ) → runsOf (dataSum s) ≡ dataSumRuns s
+pub dataSum-moves : (s : ℕ) → stageRuns (dataSum s) ≡ dataSumRuns s
 dataSum-moves s = refl

@@ -15,7 +15,7 @@ use Rattle.shiftlists.specs.Shifts.{distanceOf, shiftRuns}
 use Rattle.shiftlists.specs.declared.Axis.{Axis}
 use Rattle.shiftlists.specs.declared.Edge.{Edge}
 use Rattle.answers.specs.Answers.{verdict, acceptedBy}
-use Rattle.lanes.specs.Machine.{load, unload, made, runsOf as programRuns}
+use Rattle.lanes.specs.Machine.{load, unload, made, stageRuns as programRuns}
 use Rattle.lanes.specs.Stages.{front}
 use Rattle.spreads.specs.Programs.{dataSum}
 use Rattle.spreads.specs.Results.{dataSumWords}

@@ -2,13 +2,13 @@ use Prim.Native.Nat.{ℕ, _+_, _-_}
 use mathlib.Core.Path.{_≡_, refl, ap}
 use native.Mathlib.Omega.{arith}
 use lib.ListN.{length}
-use Rattle.mover.specs.Inside.{movedIn}
+use Rattle.mover.specs.Inside.{tallied}
 use Rattle.mover.proofs.Running.{Logging, logging-start, logging-next, logging-end}
 use Rattle.mover.proofs.log_run.Statement.{statement}
 use Rattle.mover.proofs.log_run.Tie as tie
 
 abbrev Inv-loop : tie.InvT-loop
-Inv-loop late times made from tally moved₀ went j₀ moved j = (length moved ≡ length moved₀) × Logging (movedIn late times tally) made from j moved₀ moved
+Inv-loop late times made from tally moved₀ went j₀ moved j = (length moved ≡ length moved₀) × Logging (tallied late times tally) made from j moved₀ moved
 
 abbrev μ-loop : tie.MeasureT-loop
 μ-loop late times made from tally moved₀ went j₀ moved j = made - j

@@ -1,7 +1,7 @@
 use mathlib.Core.Bool.{Bool}
 use lib.Seq.{sets}
 use Rattle.laws.specs.Tables.{entries}
-use Rattle.mover.specs.Inside.{movedIn}
+use Rattle.mover.specs.Inside.{tallied}
 use Prim.Native.Nat.{_-_, _≤_, min}
 use mathlib.Core.Path.{_≡_, refl, sym, ap, _∙_}
 use native.Mathlib.Omega.{arith}
@@ -65,114 +65,78 @@ leg-of-requires : tie.Need-leg-of-requires Inv-loop μ-loop
 leg-of-requires c κs = tt
 
 make-run-requires : tie.Need-make-run-requires Inv-loop μ-loop
-make-run-requires c κs =
-    let l₂ = c .before .before .before .before .before .before in
-    let l₃ = l₂ .before .before .before .before .before in
-    let l = l₃ .loop in rw (l₂ .leg-of .ensures) (l .inv .0 .side, l .inv .1)
+make-run-requires c κs = let l = c .before .before .before .before .before .before .before .before .before .before .before .loop in rw (c .before .before .before .before .before .before .leg-of .ensures) (l .inv .0 .side, l .inv .1)
 
 log-run-requires : tie.Need-log-run-requires Inv-loop μ-loop
-log-run-requires c κs =
-    let m = c .before .before .before .before .before .before .before .before .before .before .before .before .before in
-    let l₂ = m .before .before .before .before .before .before .before in
-    let s₂ = l₂ .before in
-    let l₃ = s₂ .before in
-    let l₄ = l₃ .before .before .before in
-    let b = l₄ .before .before .before .before .before .before .before .before .before .before in
-    let s = b .before in
-    let l = l₄ .loop in
+log-run-requires c κs = let s = c .before .before .before .before .before .before .before .before .before .before .before .before .before .before .before .before .before .before .before .before .before .before .before .before .before .before .before .before .before .before .before .before .before .before .before .before in
+    let l = c .before .before .before .before .before .before .before .before .before .before .before .before .before .before .before .before .before .before .before .before .before .before .before .before .before .loop in
     let i = l .inv in
     let r = getD (s .args .t3) (l .q) (record { step = Swap; times = 0 }) in
     let T = cellAt (l .words) (l .marks) (l .aims) (l .spare-words) (l .spare-marks) (l .spare-aims) in
-    let z = made-leg (l₂ .leg-of .ensures) (s₂ .swaps-in .ensures) (m .make-run .ensures) in (
-      (went-some (i .0 .side) z, omega (arith, l₃ .least .ensures, i .5 .upto, s .fits .cut)),
-      rw (i .4)
-          (counts-few (s .args .trip) (s .args .side) (i .0 .side) (l .swaps) (r .times) (l₃ .least .result) (omega (arith, l₃ .least .ensures)) T (r .step) z),
+    let z = made-leg (c .before .before .before .before .before .before .before .before .before .before .before .before .before .before .before .before .before .before .before .before .leg-of .ensures) (c .before .before .before .before .before .before .before .before .before .before .before .before .before .before .before .before .before .before .before .before .before .swaps-in .ensures) (c .before .before .before .before .before .before .before .before .before .before .before .before .before .make-run .ensures) in (
+      (went-some (i .0 .side) z, omega (arith, c .before .before .before .before .before .before .before .before .before .before .before .before .before .before .before .before .before .before .before .before .before .before .least .ensures, i .5 .upto, s .fits .cut)),
+      rw (i .4) (counts-few (s .args .trip) (s .args .side) (i .0 .side) (l .swaps) (r .times) (c .before .before .before .before .before .before .before .before .before .before .before .before .before .before .before .before .before .before .before .before .before .before .least .result) (omega (arith, c .before .before .before .before .before .before .before .before .before .before .before .before .before .before .before .before .before .before .before .before .before .before .least .ensures)) T (r .step) z),
     )
 
 add-swaps : tie.Need-add-swaps Inv-loop μ-loop
-add-swaps c =
-    let s₂ = c .before .before .before .before .before .before .before .before .before .before .before .before .before .before .before .before .before .before .before .before .before .before .before .before in
-    let l₂ = s₂ .before in
-    let l₃ = l₂ .before .before .before in
-    let b = l₃ .before .before .before .before .before .before .before .before .before .before in
-    let s = b .before in
-    let l = l₃ .loop in
+add-swaps c = let s = c .before .before .before .before .before .before .before .before .before .before .before .before .before .before .before .before .before .before .before .before .before .before .before .before .before .before .before .before .before .before .before .before .before .before .before .before .before .before .before in
+    let l = c .before .before .before .before .before .before .before .before .before .before .before .before .before .before .before .before .before .before .before .before .before .before .before .before .before .before .before .before .loop in
     let r = getD (s .args .t3) (l .q) (record { step = Swap; times = 0 }) in
-    omega (arith, l₂ .least .ensures, s₂ .swaps-in .ensures, few-swaps (r .step) (l₂ .least .result), l .inv .5 .few, l .inv .5 .upto, s .fits .cut)
+    omega (arith, c .before .before .before .before .before .before .before .before .before .before .before .before .before .before .before .before .before .before .before .before .before .before .before .before .before .least .ensures, c .before .before .before .before .before .before .before .before .before .before .before .before .before .before .before .before .before .before .before .before .before .before .before .before .swaps-in .ensures, few-swaps (r .step) (c .before .before .before .before .before .before .before .before .before .before .before .before .before .before .before .before .before .before .before .before .before .before .before .before .before .least .result), l .inv .5 .few, l .inv .5 .upto, s .fits .cut)
 
 add-done : tie.Need-add-done Inv-loop μ-loop
-add-done c =
-    let l = c .before .before .before .before .before .before .before .before .before .before .before .before .before .before .before .before .before .before .before .before .before .before .before .before .before in
-    let l₂ = l .before .before .before in
-    let b = l₂ .before .before .before .before .before .before .before .before .before .before in
-    let s = b .before in omega (arith, l .least .ensures, l₂ .loop .inv .5 .upto, s .fits .cut)
+add-done c = let s = c .before .before .before .before .before .before .before .before .before .before .before .before .before .before .before .before .before .before .before .before .before .before .before .before .before .before .before .before .before .before .before .before .before .before .before .before .before .before .before in omega (arith, c .before .before .before .before .before .before .before .before .before .before .before .before .before .before .before .before .before .before .before .before .before .before .before .before .before .least .ensures, c .before .before .before .before .before .before .before .before .before .before .before .before .before .before .before .before .before .before .before .before .before .before .before .before .before .before .before .before .loop .inv .5 .upto, s .fits .cut)
 
 add-q : tie.Need-add-q Inv-loop μ-loop
-add-q c =
-    let l = c .before .before .before .before .before .before .before .before .before .before .before .before .before .before .before .before .before .before .before .before .before .before .before .before .before .before .before in
-    omega (arith, l .loop-test .taken)
+add-q c = omega (arith, c .before .before .before .before .before .before .before .before .before .before .before .before .before .before .before .before .before .before .before .before .before .before .before .before .before .before .before .loop-test .taken)
 
 loop-less : tie.Need-loop-less Inv-loop μ-loop
-loop-less c =
-    let l = c .before .before .before .before .before .before .before .before .before .before .before .before .before .before .before .before .before .before .before .before .before .before .before .before .before .before .before in
-    omega (arith, l .loop-test .taken)
+loop-less c = omega (arith, c .before .before .before .before .before .before .before .before .before .before .before .before .before .before .before .before .before .before .before .before .before .before .before .before .before .before .before .loop-test .taken)
 
 loop-again : tie.Need-loop-again Inv-loop μ-loop
-loop-again c =
-    let m₂ = c .before .before .before .before .before .before .before .before .before .before .before .before .before .before .before .before in
-    let l₂ = m₂ .before .before .before .before .before .before .before in
-    let s₂ = l₂ .before in
-    let l₃ = s₂ .before in
-    let l₄ = l₃ .before .before in
-    let l₅ = l₄ .before in
-    let b₂ = l₅ .before .before .before .before .before .before .before .before .before .before in
-    let s = b₂ .before in
+loop-again c = let s = c .before .before .before .before .before .before .before .before .before .before .before .before .before .before .before .before .before .before .before .before .before .before .before .before .before .before .before .before .before .before .before .before .before .before .before .before .before .before .before in
     let a = s .args in
-    let l = l₅ .loop in
+    let l = c .before .before .before .before .before .before .before .before .before .before .before .before .before .before .before .before .before .before .before .before .before .before .before .before .before .before .before .before .loop in
     let i = l .inv in
-    let y = m₂ .make-run in
+    let y = c .before .before .before .before .before .before .before .before .before .before .before .before .before .before .before .before .make-run in
     let g = c .before .before .log-run in
     let r = getD (a .t3) (l .q) (record { step = Swap; times = 0 }) in
-    let m = l₃ .least .result in
+    let m = c .before .before .before .before .before .before .before .before .before .before .before .before .before .before .before .before .before .before .before .before .before .before .before .before .before .least .result in
     let T = cellAt (l .words) (l .marks) (l .aims) (l .spare-words) (l .spare-marks) (l .spare-aims) in
-    let z = made-leg (l₂ .leg-of .ensures) (s₂ .swaps-in .ensures) (y .ensures) in
-    let e = g .ensures ∙ ap (λ (b : Bool). sets (l .moved) (l .done) (entries (movedIn b (r .times) (y .result)) 0 m)) (i .4) in
-    let o = run-made (a .trip) (a .side) (i .0 .side) (l .swaps) (r .times) m (omega (arith, l₃ .least .ensures)) T (r .step) z e in (
+    let z = made-leg (c .before .before .before .before .before .before .before .before .before .before .before .before .before .before .before .before .before .before .before .before .before .before .before .leg-of .ensures) (c .before .before .before .before .before .before .before .before .before .before .before .before .before .before .before .before .before .before .before .before .before .before .before .before .swaps-in .ensures) (y .ensures) in
+    let e = g .ensures ∙ ap (λ (b : Bool). sets (l .moved) (l .done) (entries (tallied b (r .times) (y .result)) 0 m)) (i .4) in
+    let o = run-made (a .trip) (a .side) (i .0 .side) (l .swaps) (r .times) m (omega (arith, c .before .before .before .before .before .before .before .before .before .before .before .before .before .before .before .before .before .before .before .before .before .before .before .before .before .least .ensures)) T (r .step) z e in (
       i .0,
       omega (arith, i .1, y .kept),
       omega (arith, i .2, g .kept),
-      omega (arith, l₄ .loop-test .taken),
+      omega (arith, c .before .before .before .before .before .before .before .before .before .before .before .before .before .before .before .before .before .before .before .before .before .before .before .before .before .before .before .loop-test .taken),
       i .4,
-      rw (s₂ .swaps-in .ensures)
-          (running-next (a .t3) (record { step = Swap; times = 0 }) (side-known (a .side) (i .0 .side) .least) (omega (arith, l₄ .loop-test .taken)) (l₃ .least .ensures) o (i .5)),
+      rw (c .before .before .before .before .before .before .before .before .before .before .before .before .before .before .before .before .before .before .before .before .before .before .before .before .swaps-in .ensures) (running-next (a .t3) (record { step = Swap; times = 0 }) (side-known (a .side) (i .0 .side) .least) (omega (arith, c .before .before .before .before .before .before .before .before .before .before .before .before .before .before .before .before .before .before .before .before .before .before .before .before .before .before .before .loop-test .taken)) (c .before .before .before .before .before .before .before .before .before .before .before .before .before .before .before .before .before .before .before .before .before .before .before .before .before .least .ensures) o (i .5)),
     )
 
 same-length : tie.Need-same-length Inv-loop μ-loop
-same-length c = let l = c .before .loop in omega (arith, l .inv .0 .sized .words, l .inv .1 .words)
+same-length c = let l = c .before .loop in l .inv .1 .words ∙ sym (l .inv .0 .sized .words)
 
 same-length-2 : tie.Need-same-length-2 Inv-loop μ-loop
-same-length-2 c = let l = c .before .loop in omega (arith, l .inv .0 .sized .marks, l .inv .1 .marks)
+same-length-2 c = let l = c .before .loop in l .inv .1 .marks ∙ sym (l .inv .0 .sized .marks)
 
 same-length-3 : tie.Need-same-length-3 Inv-loop μ-loop
-same-length-3 c = let l = c .before .loop in omega (arith, l .inv .0 .sized .aims, l .inv .1 .aims)
+same-length-3 c = let l = c .before .loop in l .inv .1 .aims ∙ sym (l .inv .0 .sized .aims)
 
 same-length-4 : tie.Need-same-length-4 Inv-loop μ-loop
-same-length-4 c = let l = c .before .loop in omega (arith, l .inv .0 .sized .words2, l .inv .1 .words2)
+same-length-4 c = let l = c .before .loop in l .inv .1 .words2 ∙ sym (l .inv .0 .sized .words2)
 
 same-length-5 : tie.Need-same-length-5 Inv-loop μ-loop
-same-length-5 c = let l = c .before .loop in omega (arith, l .inv .0 .sized .marks2, l .inv .1 .marks2)
+same-length-5 c = let l = c .before .loop in l .inv .1 .marks2 ∙ sym (l .inv .0 .sized .marks2)
 
 same-length-6 : tie.Need-same-length-6 Inv-loop μ-loop
-same-length-6 c = let l = c .before .loop in omega (arith, l .inv .0 .sized .aims2, l .inv .1 .aims2)
+same-length-6 c = let l = c .before .loop in l .inv .1 .aims2 ∙ sym (l .inv .0 .sized .aims2)
 
 same-length-7 : tie.Need-same-length-7 Inv-loop μ-loop
 same-length-7 c = c .before .loop .inv .2
 
 returns-2 : tie.Need-returns-2 Inv-loop μ-loop
-returns-2 c =
-    let i = c .before .before .before in
-    let a = i .before in
-    running-end _ (sym (a .are-lanes .ensures) ∙ not-false _ (i .if1 .left)) (omega (arith, c .loop-test .left)) (c .before .loop .inv .5)
+returns-2 c = running-end _ (sym (c .before .before .before .before .are-lanes .ensures) ∙ not-false _ (c .before .before .before .if1 .left)) (omega (arith, c .loop-test .left)) (c .before .loop .inv .5)
 
 pub run-spec : {M : Type 1} → statement M
 run-spec =

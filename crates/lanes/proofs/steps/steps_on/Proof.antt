@@ -12,14 +12,14 @@ add-result c = search needs
 enum-told-2 : tie.Need-enum-told-2
 enum-told-2 c = search needs
 
-less-requires : tie.Need-less-requires
-less-requires c κs = search needs
+over-requires : tie.Need-over-requires
+over-requires c κs = search needs
 
 enum-told-3 : tie.Need-enum-told-3
 enum-told-3 c = search needs
 
-less-requires-2 : tie.Need-less-requires-2
-less-requires-2 c κs = search needs
+over-requires-2 : tie.Need-over-requires-2
+over-requires-2 c κs = search needs
 
 enum-told-4 : tie.Need-enum-told-4
 enum-told-4 c = search needs
@@ -31,10 +31,10 @@ returns : tie.Need-returns
 returns c = rw (c .enum-told .given .1)
 
 returns-2 : tie.Need-returns-2
-returns-2 c = rw (c .before .enum-told2 .given .1) (c .less .ensures)
+returns-2 c = rw (c .before .enum-told2 .given .1) (c .over .ensures)
 
 returns-3 : tie.Need-returns-3
-returns-3 c = rw (c .before .enum-told3 .given .1) (c .less2 .ensures)
+returns-3 c = rw (c .before .enum-told3 .given .1) (c .over2 .ensures)
 
 returns-4 : tie.Need-returns-4
 returns-4 c = rw (c .enum-told4 .given .1)
@@ -46,9 +46,9 @@ steps-on-spec =
     enum-told
     add-result
     enum-told-2
-    less-requires
+    over-requires
     enum-told-3
-    less-requires-2
+    over-requires-2
     enum-told-4
     add-result-2
     returns
