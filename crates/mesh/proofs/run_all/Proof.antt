@@ -19,6 +19,7 @@ abbrev Inv-loop : tie.InvT-loop
 Inv-loop words₀ marks₀ aims₀ spare-words₀ spare-marks₀ spare-aims₀ counts₀ t share size groups base₀ g₀ words marks aims spare-words spare-marks spare-aims counts base g =
     (size ≡ groupsOf (t .side)) × (groups ≡ movingGroups t) × Ruled t share × Strided t × Sized (cells (t .side)) words marks aims spare-words spare-marks spare-aims
     × Ranged t g base (cellAt words₀ marks₀ aims₀ spare-words₀ spare-marks₀ spare-aims₀) (cellAt words marks aims spare-words spare-marks spare-aims) counts
+    × Sized (cells (t .side)) words₀ marks₀ aims₀ spare-words₀ spare-marks₀ spare-aims₀
 
 abbrev μ-loop : tie.MeasureT-loop
 μ-loop words₀ marks₀ aims₀ spare-words₀ spare-marks₀ spare-aims₀ counts₀ t share size groups base₀ g₀ words marks aims spare-words spare-marks spare-aims counts base g =
@@ -60,7 +61,7 @@ loop-holds c = let a = c .before .before .before .before .before .before .before
     let e = sym (c .before .before .before .before .before .are-lanes .ensures) ∙ not-false _ (c .before .before .before .before .if1 .left) in
     let k = lanes-known (a .leg .side) (a .words .now) (a .marks .now) (a .aims .now) (a .spare-words .now) (a .spare-marks .now) (a .spare-aims .now) e in
     let z = ruled (a .leg) (k .side) (c .before .before .before .rule-of .ensures) (c .before .before .share .ensures) in
-    (refl, c .moving-groups .ensures, z .0, z .1, rw (c .before .before .before .rule-of .ensures) (k .sized), ranged-start _ _ refl (no-counts 8))
+    (refl, c .moving-groups .ensures, z .0, z .1, rw (c .before .before .before .rule-of .ensures) (k .sized), ranged-start _ _ refl (no-counts 8), rw (c .before .before .before .rule-of .ensures) (k .sized))
 
 slice-aggregate-run-part : tie.Need-slice-aggregate-run-part Inv-loop μ-loop
 slice-aggregate-run-part c = search needs
@@ -107,73 +108,25 @@ loop-again c =
     let i = l₂ .loop .inv in
     let y = r .run-part in
     let z = ranged-step (known (i .2) .least) (i .3) (moving-few (r₂ .rule-of .result) (i .1) (l .loop-test .taken)) (i .5) refl (omega (arith, i .5 .long, y .kept)) (y .ensures) in
-    (i .0, i .1, i .2, i .3, omega (arith, i .4, y .kept), rw (i .0) z)
+    (i .0, i .1, i .2, i .3, omega (arith, i .4, y .kept), rw (i .0) z, i .6)
 
 same-length : tie.Need-same-length Inv-loop μ-loop
-same-length c =
-    let r = c .before .before .before .before .before in
-    let i = r .before in
-    let a₂ = i .before in
-    let s = a₂ .before .before .before .before .before .before .before in
-    let a = s .args in
-    let e = sym (a₂ .are-lanes .ensures) ∙ not-false _ (i .if1 .left) in
-    let k = lanes-known (a .leg .side) (a .words .now) (a .marks .now) (a .aims .now) (a .spare-words .now) (a .spare-marks .now) (a .spare-aims .now) e in
-    c .before .loop .inv .4 .words ∙ sym (rw (r .rule-of .ensures) (k .sized .words))
+same-length c = let i = c .before .loop .inv in i .4 .words ∙ sym (i .6 .words)
 
 same-length-2 : tie.Need-same-length-2 Inv-loop μ-loop
-same-length-2 c =
-    let r = c .before .before .before .before .before in
-    let i = r .before in
-    let a₂ = i .before in
-    let s = a₂ .before .before .before .before .before .before .before in
-    let a = s .args in
-    let e = sym (a₂ .are-lanes .ensures) ∙ not-false _ (i .if1 .left) in
-    let k = lanes-known (a .leg .side) (a .words .now) (a .marks .now) (a .aims .now) (a .spare-words .now) (a .spare-marks .now) (a .spare-aims .now) e in
-    c .before .loop .inv .4 .marks ∙ sym (rw (r .rule-of .ensures) (k .sized .marks))
+same-length-2 c = let i = c .before .loop .inv in i .4 .marks ∙ sym (i .6 .marks)
 
 same-length-3 : tie.Need-same-length-3 Inv-loop μ-loop
-same-length-3 c =
-    let r = c .before .before .before .before .before in
-    let i = r .before in
-    let a₂ = i .before in
-    let s = a₂ .before .before .before .before .before .before .before in
-    let a = s .args in
-    let e = sym (a₂ .are-lanes .ensures) ∙ not-false _ (i .if1 .left) in
-    let k = lanes-known (a .leg .side) (a .words .now) (a .marks .now) (a .aims .now) (a .spare-words .now) (a .spare-marks .now) (a .spare-aims .now) e in
-    c .before .loop .inv .4 .aims ∙ sym (rw (r .rule-of .ensures) (k .sized .aims))
+same-length-3 c = let i = c .before .loop .inv in i .4 .aims ∙ sym (i .6 .aims)
 
 same-length-4 : tie.Need-same-length-4 Inv-loop μ-loop
-same-length-4 c =
-    let r = c .before .before .before .before .before in
-    let i = r .before in
-    let a₂ = i .before in
-    let s = a₂ .before .before .before .before .before .before .before in
-    let a = s .args in
-    let e = sym (a₂ .are-lanes .ensures) ∙ not-false _ (i .if1 .left) in
-    let k = lanes-known (a .leg .side) (a .words .now) (a .marks .now) (a .aims .now) (a .spare-words .now) (a .spare-marks .now) (a .spare-aims .now) e in
-    c .before .loop .inv .4 .words2 ∙ sym (rw (r .rule-of .ensures) (k .sized .words2))
+same-length-4 c = let i = c .before .loop .inv in i .4 .words2 ∙ sym (i .6 .words2)
 
 same-length-5 : tie.Need-same-length-5 Inv-loop μ-loop
-same-length-5 c =
-    let r = c .before .before .before .before .before in
-    let i = r .before in
-    let a₂ = i .before in
-    let s = a₂ .before .before .before .before .before .before .before in
-    let a = s .args in
-    let e = sym (a₂ .are-lanes .ensures) ∙ not-false _ (i .if1 .left) in
-    let k = lanes-known (a .leg .side) (a .words .now) (a .marks .now) (a .aims .now) (a .spare-words .now) (a .spare-marks .now) (a .spare-aims .now) e in
-    c .before .loop .inv .4 .marks2 ∙ sym (rw (r .rule-of .ensures) (k .sized .marks2))
+same-length-5 c = let i = c .before .loop .inv in i .4 .marks2 ∙ sym (i .6 .marks2)
 
 same-length-6 : tie.Need-same-length-6 Inv-loop μ-loop
-same-length-6 c =
-    let r = c .before .before .before .before .before in
-    let i = r .before in
-    let a₂ = i .before in
-    let s = a₂ .before .before .before .before .before .before .before in
-    let a = s .args in
-    let e = sym (a₂ .are-lanes .ensures) ∙ not-false _ (i .if1 .left) in
-    let k = lanes-known (a .leg .side) (a .words .now) (a .marks .now) (a .aims .now) (a .spare-words .now) (a .spare-marks .now) (a .spare-aims .now) e in
-    c .before .loop .inv .4 .aims2 ∙ sym (rw (r .rule-of .ensures) (k .sized .aims2))
+same-length-6 c = let i = c .before .loop .inv in i .4 .aims2 ∙ sym (i .6 .aims2)
 
 returns-2 : tie.Need-returns-2 Inv-loop μ-loop
 returns-2 c =
