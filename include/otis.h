@@ -42,7 +42,8 @@
  * WHAT IS TRUSTED. The functions are proved to do what is said here on every side and on every array that is as long as its
  * length says. Nothing proves this file: that these declarations name the same parameters, in the same order and of the
  * same widths as the archive, that a length is true and that arrays do not overlap. A wrong declaration, here or in
- * another language, is seen by no compiler and no linker; the differential tests in bench/ are all that would notice.
+ * another language, is seen by no compiler and no linker. The differential tests in bench/ would notice one in this file,
+ * and otis_version() tells of an archive that belongs to another one.
  */
 #ifndef OTIS_H
 #define OTIS_H
@@ -165,7 +166,7 @@ struct otis_answer otis_distribute(
 /* The same three functions over arrays put together by name, so that no two of them can be exchanged unseen: front and spare
  * lanes have types of their own. Lengths, refusals and results are those of the functions above. */
 
-/* A cell's records, or its first ones: each array has so many cells. */
+/* The records, and during a run the front one of each cell: each array has so many cells. */
 struct otis_front {
     uint32_t *words;
     uint8_t *marks;
@@ -173,7 +174,7 @@ struct otis_front {
     size_t cells;
 };
 
-/* A cell's second record during a run: each array has so many cells. */
+/* The second record of each cell during a run: each array has so many cells. */
 struct otis_spare {
     uint32_t *words;
     uint8_t *marks;
