@@ -1,17 +1,28 @@
-# The commands of the README.
-.PHONY: run test lib bench
+# The commands of the README. `make` alone shows them.
+.PHONY: help run test lib bench
 
-# the main job on an example; make run JOB=file on another
+help:
+	@echo 'make run            the moves of an example job; make run JOB=FILE: of another'
+	@echo 'make test           the whole test, from nothing: half an hour'
+	@echo 'make lib            the archive for C, target/lib/libotis.a, to use with include/otis.h'
+	@echo 'make bench          times of the archive against a C stepper'
+	@echo 'README.md says what they need, and what they do.'
+
 run:
-	@JOB='$(JOB)' tests/run
+	@tests/run
 
 test:
 	@tests/all
 
-# the archive that bench software in C links: target/staticlib/libcapi.a
+# no archive of an earlier run is left where this one fails
 lib:
-	@rt staticlib capi
+	@tests/need rt
+	@rm -f target/lib/libotis.a
+	@tests/prove staticlib capi
+	@mkdir -p target/lib
+	@cp target/staticlib/libcapi.a target/lib/libotis.a
+	@echo 'target/lib/libotis.a is there'
 
-# times of the archive against a C stepper
 bench:
+	@tests/need rt cc
 	@tests/speed

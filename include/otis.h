@@ -1,7 +1,12 @@
 /* Rank, concentrate and distribute of a synchronous SIMD OTIS-Mesh of side 1 to 8.
  *
- * The functions are in the archive libcapi.a. They keep nothing between two calls, take no memory and write no file; calls
- * on tables that do not overlap may run at the same time. For C99 and later, and for C++.
+ * The functions are in the archive libotis.a, which `make lib` writes. It is for x86-64 Linux and no other machine. They keep
+ * nothing between two calls, take no memory and write no file; calls on tables that do not overlap may run at the same time.
+ * This file is for C99 and later, and for C++.
+ *
+ * START HERE. Compare otis_version() with OTIS_VERSION. Put the arrays into struct otis_front, otis_spare and otis_log, and
+ * call otis_rank_board, otis_concentrate_board and otis_distribute_board. Look at the answer's number: 0 is accepted.
+ * bench/c/frame.c does all of it. docs/MODEL.md tells of the board and its moves.
  *
  * THE BOARD. Side s has s * s groups of s * s cells, s * s * s * s cells in all (OTIS_CELLS). Cell P of group G has the
  * index G * s * s + P, and place P lies at row P / s, column P % s.
@@ -37,7 +42,8 @@
  * WHAT IS TRUSTED. The functions are proved to do what is said here on every side and on every array that is as long as its
  * length says. Nothing proves this file: that these declarations name the same parameters, in the same order and of the
  * same widths as the archive, that a length is true and that arrays do not overlap. A wrong declaration, here or in
- * another language, is seen by no compiler and no linker; the differential tests in bench/ are all that would notice.
+ * another language, is seen by no compiler and no linker. The differential tests in bench/ would notice one in this file,
+ * and otis_version() tells of an archive that belongs to another one.
  */
 #ifndef OTIS_H
 #define OTIS_H
@@ -49,15 +55,26 @@
 extern "C" {
 #endif
 
+/* The version of this file: another number means other parameters or another answer. No linker notices such a change, so
+ * compare it with otis_version(), which is the archive's own, before any other call. */
+#define OTIS_VERSION 1
+uint32_t otis_version(void);
+
 /* How many cells a board of that side has: the length of every lane. Only for sides 1 to 8. */
 #define OTIS_CELLS(side) ((size_t)(side) * (size_t)(side) * (size_t)(side) * (size_t)(side))
 
 /* How many moves each of the three operations makes: the least length of every log. Only for sides 1 to 8. */
 #define OTIS_MOVES(side) (7 * ((size_t)(side) - 1) + 2)
 
-/* For arrays that serve every side. */
-#define OTIS_MOST_CELLS 4096
-#define OTIS_MOST_MOVES 51
+/* The greatest of them, those of side 8: for arrays that serve every side. */
+#define OTIS_MAX_CELLS 4096
+#define OTIS_MAX_MOVES 51
+
+/* How many bytes of stack a call takes at most, at any side: for the size of a thread's stack. Measured by painting the stack
+ * (bench/c/stack.c): rank takes some 91,000, the other two some 10,000. The tests hold the archive to these numbers. */
+#define OTIS_RANK_STACK 98304
+#define OTIS_CONCENTRATE_STACK 16384
+#define OTIS_DISTRIBUTE_STACK 16384
 
 /* The entries of codes. */
 enum otis_code {
@@ -145,6 +162,54 @@ struct otis_answer otis_distribute(
     uint16_t *spare_aims, size_t spare_aims_length,
     uint8_t *codes, size_t codes_length,
     uint16_t *moved, size_t moved_length);
+
+/* The same three functions over arrays put together by name, so that no two of them can be exchanged unseen: front and spare
+ * lanes have types of their own. Lengths, refusals and results are those of the functions above. */
+
+/* The records, and during a run the front one of each cell: each array has so many cells. */
+struct otis_front {
+    uint32_t *words;
+    uint8_t *marks;
+    uint16_t *aims;
+    size_t cells;
+};
+
+/* The second record of each cell during a run: each array has so many cells. */
+struct otis_spare {
+    uint32_t *words;
+    uint8_t *marks;
+    uint16_t *aims;
+    size_t cells;
+};
+
+/* The logs: each array has room for so many moves. */
+struct otis_log {
+    uint8_t *codes;
+    uint16_t *moved;
+    size_t moves;
+};
+
+/* Reads front.marks; writes front.aims and log.codes, and nothing else: the other pointers may be null. */
+static inline struct otis_answer otis_rank_board(size_t side, struct otis_front front, struct otis_log log)
+{
+    return otis_rank(side, front.marks, front.cells, front.aims, front.cells, log.codes, log.moves);
+}
+
+static inline struct otis_answer otis_concentrate_board(
+    size_t side, struct otis_front front, struct otis_spare spare, struct otis_log log)
+{
+    return otis_concentrate(
+        side, front.words, front.cells, front.marks, front.cells, front.aims, front.cells, spare.words, spare.cells,
+        spare.marks, spare.cells, spare.aims, spare.cells, log.codes, log.moves, log.moved, log.moves);
+}
+
+static inline struct otis_answer otis_distribute_board(
+    size_t side, struct otis_front front, struct otis_spare spare, struct otis_log log)
+{
+    return otis_distribute(
+        side, front.words, front.cells, front.marks, front.cells, front.aims, front.cells, spare.words, spare.cells,
+        spare.marks, spare.cells, spare.aims, spare.cells, log.codes, log.moves, log.moved, log.moves);
+}
 
 #ifdef __cplusplus
 }

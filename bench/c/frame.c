@@ -1,11 +1,15 @@
 /* A frame of the line camera, as bench software treats it: rank the marked cells, concentrate them, print the front,
- * distribute them back, and compare with what the camera gave.
+ * distribute them back, and compare with what the camera gave. A refusal ends it, with a line that says which.
  *
- * Its expected output, frame.stdout, is worked out by hand from document 01: the frame is that of its example job, so both
+ *     make lib
+ *     gcc -O2 -Iinclude bench/c/frame.c target/lib/libotis.a -o frame && ./frame
+ *
+ * Its expected output, frame.stdout, is worked out by hand from the scope: the frame is that of its example job, so both
  * columns of moved counts stand there, and so does what a damaged mark is answered. */
 #include "otis.h"
 
 #include <stdio.h>
+#include <stdlib.h>
 #include <string.h>
 
 #define SIDE 2
@@ -23,6 +27,24 @@ struct log {
     uint16_t moved[MOVES];
 };
 
+static struct otis_front front_of(struct frame *frame)
+{
+    struct otis_front front = {.words = frame->words, .marks = frame->marks, .aims = frame->aims, .cells = CELLS};
+    return front;
+}
+
+static struct otis_spare spare_of(struct frame *frame)
+{
+    struct otis_spare spare = {.words = frame->words, .marks = frame->marks, .aims = frame->aims, .cells = CELLS};
+    return spare;
+}
+
+static struct otis_log log_of(struct log *log)
+{
+    struct otis_log lent = {.codes = log->codes, .moved = log->moved, .moves = MOVES};
+    return lent;
+}
+
 /* What the camera gave: every spot has a reading, three are suspect. */
 static void read_camera(struct frame *frame)
 {
@@ -37,33 +59,47 @@ static void read_camera(struct frame *frame)
 
 static struct otis_answer rank(struct frame *frame)
 {
-    uint8_t codes[MOVES];
-    return otis_rank(SIDE, frame->marks, CELLS, frame->aims, CELLS, codes, MOVES);
+    struct log log;
+    return otis_rank_board(SIDE, front_of(frame), log_of(&log));
 }
 
 /* The spare lanes need no clearing: what they held before is never looked at. */
 static struct otis_answer concentrate(struct frame *frame, struct log *log)
 {
     struct frame spare;
-    return otis_concentrate(
-        SIDE, frame->words, CELLS, frame->marks, CELLS, frame->aims, CELLS, spare.words, CELLS, spare.marks, CELLS,
-        spare.aims, CELLS, log->codes, MOVES, log->moved, MOVES);
+    return otis_concentrate_board(SIDE, front_of(frame), spare_of(&spare), log_of(log));
 }
 
 static struct otis_answer distribute(struct frame *frame, struct log *log)
 {
     struct frame spare;
-    return otis_distribute(
-        SIDE, frame->words, CELLS, frame->marks, CELLS, frame->aims, CELLS, spare.words, CELLS, spare.marks, CELLS,
-        spare.aims, CELLS, log->codes, MOVES, log->moved, MOVES);
+    return otis_distribute_board(SIDE, front_of(frame), spare_of(&spare), log_of(log));
 }
 
 static void print_answer(const char *name, struct otis_answer answer)
 {
-    if (answer.number)
+    if (answer.number != OTIS_ACCEPTED)
         printf("%s: refused, number %zu, place %zu\n", name, answer.number, answer.place);
     else
         printf("%s: %zu electronic moves, %zu swaps\n", name, answer.electronic, answer.swaps);
+}
+
+/* What a refused call was to write is not there: nothing after it may go on. */
+static void must_accept(const char *name, struct otis_answer answer)
+{
+    print_answer(name, answer);
+    if (answer.number != OTIS_ACCEPTED)
+        exit(1);
+}
+
+/* A header and an archive of two versions may agree on no parameter, so nothing else is called before. */
+static void must_be_one_version(void)
+{
+    uint32_t version = otis_version();
+    if (version == OTIS_VERSION)
+        return;
+    printf("otis.h is version %d, the archive version %u\n", OTIS_VERSION, (unsigned)version);
+    exit(1);
 }
 
 static void print_log(const struct log *log)
@@ -104,9 +140,12 @@ static int try_damaged(const struct frame *camera)
 {
     struct frame frame = *camera;
     struct log log;
+    struct otis_answer answer;
     frame.marks[6] = 3;
-    print_answer("damaged", concentrate(&frame, &log));
-    return frame.marks[6] == 3 && memcmp(frame.words, camera->words, sizeof frame.words) == 0;
+    answer = concentrate(&frame, &log);
+    print_answer("damaged", answer);
+    return answer.number == OTIS_BAD_MARK && frame.marks[6] == 3
+        && memcmp(frame.words, camera->words, sizeof frame.words) == 0;
 }
 
 int main(void)
@@ -114,15 +153,16 @@ int main(void)
     struct frame camera, frame;
     struct log log;
     int back, kept;
+    must_be_one_version();
     read_camera(&camera);
-    print_answer("rank", rank(&camera));
+    must_accept("rank", rank(&camera));
     print_marked(&camera);
     frame = camera;
-    print_answer("concentrate", concentrate(&frame, &log));
+    must_accept("concentrate", concentrate(&frame, &log));
     print_log(&log);
     print_marked(&frame);
     aim_back(&camera, &frame);
-    print_answer("distribute", distribute(&frame, &log));
+    must_accept("distribute", distribute(&frame, &log));
     print_log(&log);
     print_marked(&frame);
     back = is_back(&camera, &frame);

@@ -54,12 +54,12 @@ enum { KINDS = sizeof kinds / sizeof *kinds, HALF = 1 };
 
 /* As many frames as make 4,096 cells, one behind the other. */
 struct batch {
-    uint32_t words[OTIS_MOST_CELLS];
-    uint8_t marks[OTIS_MOST_CELLS];
-    uint16_t aims[OTIS_MOST_CELLS];
-    uint32_t spare_words[OTIS_MOST_CELLS];
-    uint8_t spare_marks[OTIS_MOST_CELLS];
-    uint16_t spare_aims[OTIS_MOST_CELLS];
+    uint32_t words[OTIS_MAX_CELLS];
+    uint8_t marks[OTIS_MAX_CELLS];
+    uint16_t aims[OTIS_MAX_CELLS];
+    uint32_t spare_words[OTIS_MAX_CELLS];
+    uint8_t spare_marks[OTIS_MAX_CELLS];
+    uint16_t spare_aims[OTIS_MAX_CELLS];
     uint8_t codes[MOST_LOG];
     uint16_t moved[MOST_LOG];
 };
@@ -107,7 +107,7 @@ static void fill(struct batch *batch, size_t cells, const struct kind *kind, boo
 {
     uint64_t dice = 0x5EED;
     fill_with_garbage(batch, &dice);
-    for (size_t start = 0; start + cells <= OTIS_MOST_CELLS; start += cells)
+    for (size_t start = 0; start + cells <= OTIS_MAX_CELLS; start += cells)
         mark(cells, kind, back, batch->marks + start, batch->aims + start, &dice);
 }
 
@@ -129,7 +129,7 @@ static struct otis_answer call(const struct task *task, int callee, size_t side,
 static size_t call_all(const struct task *task, int callee, size_t side, struct batch *batch)
 {
     size_t refused = 0;
-    for (size_t frame = 0; frame < OTIS_MOST_CELLS / OTIS_CELLS(side); frame++)
+    for (size_t frame = 0; frame < OTIS_MAX_CELLS / OTIS_CELLS(side); frame++)
         refused += call(task, callee, side, batch, frame).number != 0;
     return refused;
 }
@@ -167,7 +167,7 @@ static double timed(const struct task *task, int callee, size_t side)
     spent = nanoseconds() - before;
     if (refused)
         fail("a call is refused", task, side);
-    return spent / (double)(OTIS_MOST_CELLS / OTIS_CELLS(side));
+    return spent / (double)(OTIS_MAX_CELLS / OTIS_CELLS(side));
 }
 
 static int rising(const void *one, const void *other)

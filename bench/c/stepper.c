@@ -45,11 +45,11 @@ static struct otis_answer judge_marks(const uint8_t *marks, size_t cells)
 
 /* The lanes of the prefix sum, named as in its nine steps. They are lanes of words, as on the board. */
 struct sums {
-    uint32_t r[OTIS_MOST_CELLS]; /* the marked cells of the row, up to this one */
-    uint32_t c[OTIS_MOST_CELLS]; /* r down the column */
-    uint32_t a[OTIS_MOST_CELLS]; /* what came by light */
-    uint32_t y[OTIS_MOST_CELLS]; /* a along the row, up to this cell */
-    uint32_t z[OTIS_MOST_CELLS]; /* y down the column; later what is before the cell */
+    uint32_t r[OTIS_MAX_CELLS]; /* the marked cells of the row, up to this one */
+    uint32_t c[OTIS_MAX_CELLS]; /* r down the column */
+    uint32_t a[OTIS_MAX_CELLS]; /* what came by light */
+    uint32_t y[OTIS_MAX_CELLS]; /* a along the row, up to this cell */
+    uint32_t z[OTIS_MAX_CELLS]; /* y down the column; later what is before the cell */
 };
 
 /* Right: in each move the next column of every group adds what it receives. */
@@ -302,8 +302,8 @@ struct record {
 /* Where the record of an aim heads inside its group. Looked up, since dividing for every record in every move costs more
  * than the move. */
 struct headings {
-    uint8_t row[OTIS_MOST_CELLS];
-    uint8_t column[OTIS_MOST_CELLS];
+    uint8_t row[OTIS_MAX_CELLS];
+    uint8_t column[OTIS_MAX_CELLS];
 };
 
 /* Outside the swaps a record heads for its aim's place in a group, between them for its aim's group. */

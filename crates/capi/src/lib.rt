@@ -4,9 +4,18 @@ use answers::Answer;
 use ranking::rank;
 use records::concentrate;
 use records::distribute;
+ghost use mathlib.Core.Path.{_≡_};
 ghost use Rattle.lists.specs.declared.Trip.the-variants.{Concentrate, Distribute};
 ghost use Rattle.ranking.specs.Entries.{Ranked};
 ghost use Rattle.records.specs.Entries.{FullRun};
+
+// The version of what C sees here. It is raised, with OTIS_VERSION in the header, whenever a parameter or the answer changes.
+#[no_mangle]
+pub extern "C" fn otis_version() -> u32
+    ensures { λ r. ⌜ r ≡ 1 ⌝ }
+{
+    1
+}
 
 #[no_mangle]
 pub extern "C" fn otis_rank(side: usize, marks: &[u8], aims: &mut [u16], codes: &mut [u8]) -> Answer
