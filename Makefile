@@ -18,9 +18,9 @@ test:
 lib:
 	@tests/need rt
 	@rm -f target/lib/libotis.a
-	@tests/prove staticlib capi
+	@tests/prove staticlib otis
 	@mkdir -p target/lib
-	@cp target/staticlib/libcapi.a target/lib/libotis.a
+	@cp target/staticlib/libotis.a target/lib/libotis.a
 	@echo 'target/lib/libotis.a is there'
 
 bench:
