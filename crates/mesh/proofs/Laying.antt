@@ -82,7 +82,14 @@ lands {t} {p} {h} {on} {r} few within p< h< f g w a = record {
     turned : not (eqb (reach t h p (t .made)) p) ≡ ltb 0 on
     turned = leaves-gone t h p within ∙ ap (ltb 0) (sym (g ∙ ap (goneOf t) f))
 
--- of a slot with a record, and of one with none
+pub went-one : {t : LineRule} {p h : ℕ} {r : Arrival} → Lands t p h r → r .went ≤ 1
+went-one {t} {p} {h} {r} z = rw (z .went) (go (eqb (r .at) p))
+  where
+    go : (b : Bool) → cond b 0 1 ≤ 1
+    go true = omega arith
+    go false = omega arith
+
+-- of a slot with a record
 pub arrives-some : {t : LineRule} {p h : ℕ} {x : Rec} {r : Arrival} → (x .mark ≡ 0 → ⊥) → h ≡ headOf t x → Lands t p h r → Arrives t p x r
 unfolding landed
 arrives-some {t} {p} {h} {x} {r} m e z =
@@ -90,31 +97,13 @@ arrives-some {t} {p} {h} {x} {r} m e z =
     record {
       few = y .few;
       on = y .on;
-      one = rw (y .went) (go (eqb (r .at) p));
+      one = went-one y;
       lands = λ j c. ⊎-elim
           (λ i. rw (eq-eqb j (r .at) i, eq-eqb (endOf t p x) j (sym (i ∙ y .at))))
           (λ i. rw (ne-eqb j (r .at) i, ne-eqb (endOf t p x) j (λ n. i (sym (y .at ∙ n)))))
           (same? j (r .at));
       went = λ d. sym (went-lands t d p x m y);
     }
-  where
-    go : (b : Bool) → cond b 0 1 ≤ 1
-    go true = omega arith
-    go false = omega arith
-
-pub arrives-none : {t : LineRule} {p : ℕ} {x : Rec} → x .mark ≡ 0 → p < t .side → Arrives t p x (record { far = 0; at = p; went = 0 })
-unfolding landed
-arrives-none {t} {p} {x} m h = record {
-  few = omega arith;
-  on = h;
-  one = omega arith;
-  lands = λ j c. one-less (eqb j p) _ c (none-joins c x m) ∙ sym (one-less (eqb (endOf t p x) j) _ c (none-joins c x m));
-  went = λ d. nothing-went (eqb d 0) ∙ sym (none-went t d p x m);
-}
-  where
-    nothing-went : (b : Bool) → _≡_ {A = ℕ} (cond b 0 0) 0
-    nothing-went true = refl
-    nothing-went false = refl
 
 -- an empty line
 pub no-cells : (n : ℕ) {c : Cell} → c ≡ empty → (j : ℕ) → j < n → getD (replicate n c) j empty ≡ empty
@@ -134,6 +123,23 @@ unfolding settled
 settling-start t U {counts} e f g =
     record { within = omega arith; long = e; line-long = f; done = record { made = g; count = λ d h. sym (add-zero (getD counts d 0)) } }
 
+-- a slot with no record
+pub settling-none : {t : LineRule} {U : ℕ → Cell} {k : ℕ} {counts counts′ : List ℕ} {line : List Cell} {x : Rec} → k < 2 * t .side → x ≡ slotIn U k → x .mark ≡ 0 → Settling t U k counts counts′ line
+    → Settling t U (k + 1) counts counts′ line
+unfolding settled landed
+settling-none {t} {U} {k} h e m z =
+    let m′ : slotIn U k .mark ≡ 0 = ap (λ (y : Rec). y .mark) (sym e) ∙ m in
+    rw add-one (record {
+      within = omega arith;
+      long = z .long;
+      line-long = z .line-long;
+      done = record {
+        made = λ j u. z .done .made j u ∙ sym (one-less (eqb (endOf t (k / 2) (slotIn U k)) j) _ _ (none-joins _ (slotIn U k) m′));
+        count = λ d u. omega (arith, z .done .count d u, none-went t d (k / 2) (slotIn U k) m′);
+      };
+    })
+
+-- and with one
 pub settling-step : {t : LineRule} {U : ℕ → Cell} {k : ℕ} {counts counts′ : List ℕ} {line : List Cell} {x : Rec} {r : Arrival} {v : ℕ} {met : Cell} → k < 2 * t .side → t .side ≤ 8 → x ≡ slotIn U k
     → Arrives t (k / 2) x r → v ≡ getD counts′ (r .far) 0 + r .went → met ≡ joined (getD line (r .at) empty) x → Settling t U k counts counts′ line
     → Settling t U (k + 1) counts (set counts′ (r .far) v) (set line (r .at) met)

@@ -17,7 +17,7 @@ ghost use lib.ListN.{length};
 ghost use Rattle.laws.specs.Lent.{old, new};
 ghost use Rattle.slots.specs.Lanes.{FromTo, Long};
 ghost use Rattle.mesh.specs.Lines.{digitOf, cellsToGo, leaves, noneLeaves};
-ghost use Rattle.mesh.specs.Inside.{shareOf, goneOf, cellsOf, slotsAt, Ruled, Lies, Roomy, Lands, Arrives, PutDown, RanLine};
+ghost use Rattle.mesh.specs.Inside.{shareOf, goneOf, cellsOf, slotsAt, Ruled, Lies, Roomy, Lands, PutDown, RanLine};
 
 // What a line goes by: its length, the stride from one cell of it to the next, the weight of the digit of an aim that names a cell of it,
 // whether records go up the line and down it, whether they go as late as they can, how many moves the run has and how many are made.
@@ -99,21 +99,6 @@ fn landing(t: LineRule, p: usize, h: usize) -> Arrival
     }
 }
 
-// The same of what slot x of cell p holds; where that is no record, it stays and nothing went.
-fn arriving(t: LineRule, share: usize, p: usize, x: Rec) -> Arrival
-    requires { ⌜ Ruled t share × (p < t .side) ⌝ }
-    ensures { λ r. ⌜ Arrives t p x r ⌝ }
-{
-    if x.mark == 0 {
-        return Arrival {
-            far: 0,
-            at: p,
-            went: 0,
-        };
-    }
-    landing(t, p, digit(t, share, x.aim))
-}
-
 // Whether a record of this mark and aim leaves cell p.
 pub(crate) fn goes(t: LineRule, share: usize, p: usize, mark: u8, aim: u16) -> bool
     requires { ⌜ Ruled t share ⌝ }
@@ -149,11 +134,13 @@ fn put_line(
             spare: spares[p],
         };
         let x = slot(k % 2 == 1, own);
-        let arrival = arriving(t, share, p, x);
-        let far = arrival.far;
-        let at = arrival.at;
-        counts[far] += arrival.went;
-        line[at] = joined(line[at], x);
+        if x.mark != 0 {
+            let arrival = landing(t, p, digit(t, share, x.aim));
+            let far = arrival.far;
+            let at = arrival.at;
+            counts[far] += arrival.went;
+            line[at] = joined(line[at], x);
+        }
         k += 1;
     }
     line

@@ -1,9 +1,10 @@
 use Prim.Native.Nat.{_-_, _*_}
 use mathlib.Core.Path.{_≡_, refl, sym, _∙_}
+use mathlib.Core.Logic.{⊎-elim}
 use native.Mathlib.Omega.{arith}
 use Rattle.mesh.specs.Inside.{cellsOf}
 use Rattle.mesh.proofs.Ruling.{known}
-use Rattle.mesh.proofs.Laying.{Settling, settling-start, settling-step, settling-few, settling-end, cell-in, no-cells}
+use Rattle.mesh.proofs.Laying.{Settling, settling-start, settling-none, settling-step, settling-few, settling-end, arrives-some, cell-in, no-cells, went-one}
 use Rattle.mesh.proofs.lines.put_line.Statement.{statement}
 use Rattle.mesh.proofs.lines.put_line.Tie as tie
 use Rattle.slots.proofs.empty.Reads as empty-reads
@@ -45,76 +46,91 @@ array-copy-out-t26 c =
 slot-requires : tie.Need-slot-requires Inv-loop μ-loop
 slot-requires c κs = tt
 
-arriving-requires : tie.Need-arriving-requires Inv-loop μ-loop
-arriving-requires c κs =
-    let l = c .before .before .before in
+digit-requires : tie.Need-digit-requires Inv-loop μ-loop
+digit-requires c κs = c .before .before .before .before .before .before .before .before .before .before .pre .0
+
+landing-requires : tie.Need-landing-requires Inv-loop μ-loop
+landing-requires c κs =
+    let l = c .before .before .before .before .before .before in
     let l₂ = l .before in
     let s = l₂ .before .before .before .before in
-    let z = s .pre .0 in (z, cell-in (l .loop-test .taken) (l₂ .loop .inv .0) (known z .most) .0)
+    let z = s .pre .0 in
+    let k = known z .most in
+    ((cell-in (l .loop-test .taken) (l₂ .loop .inv .0) k .0, c .digit .ensures .1), (k, z .within))
 
 mul-counts : tie.Need-mul-counts Inv-loop μ-loop
-mul-counts c = omega (arith, c .arriving .ensures .few)
+mul-counts c = omega (arith, c .landing .ensures .few)
 
 slice-read-counts : tie.Need-slice-read-counts Inv-loop μ-loop
-slice-read-counts c = omega (arith, c .before .arriving .ensures .few, c .before .before .before .before .before .before .loop .inv .1 .long)
+slice-read-counts c =
+    let l = c .before .before .before .before .before .before .before .before .before in
+    omega (arith, c .before .landing .ensures .few, l .loop .inv .1 .long)
 
 add-counts : tie.Need-add-counts Inv-loop μ-loop
 add-counts c =
-    let l₂ = c .before .before .before .before .before .before .before in
+    let l₂ = c .before .before .before .before .before .before .before .before .before .before in
     let b = l₂ .before .before .before in
     let s = b .before in
-    let l = c .before .before .arriving .ensures in
-    omega (arith, settling-few (known (s .pre .0) .most) (l₂ .loop .inv .1) _ (l .few), s .pre .1 .room _ (l .few), l .one)
+    let l = c .before .before .landing .ensures in
+    omega (arith, settling-few (known (s .pre .0) .most) (l₂ .loop .inv .1) _ (l .few), s .pre .1 .room _ (l .few), went-one l)
 
 slice-write-counts : tie.Need-slice-write-counts Inv-loop μ-loop
-slice-write-counts c = omega (arith, c .before .before .arriving .ensures .few, c .before .before .before .before .before .before .before .loop .inv .1 .long)
+slice-write-counts c =
+    let l = c .before .before .before .before .before .before .before .before .before .before in
+    omega (arith, c .before .before .landing .ensures .few, l .loop .inv .1 .long)
 
 mul-joined : tie.Need-mul-joined Inv-loop μ-loop
 mul-joined c =
-    let s = c .before .before .before .before .before .before .before .before .before .before .before in
-    omega (arith, c .before .before .arriving .ensures .on, known (s .pre .0) .most)
+    let s = c .before .before .before .before .before .before .before .before .before .before .before .before .before .before in
+    omega (arith, c .before .before .landing .ensures .on, known (s .pre .0) .most)
 
 array-copy-out-joined : tie.Need-array-copy-out-joined Inv-loop μ-loop
 array-copy-out-joined c =
-    let l = c .before .before .before .before .before .before .before in
+    let l = c .before .before .before .before .before .before .before .before .before .before in
     let s = l .before .before .before .before in
-    omega (arith, c .before .before .arriving .ensures .on, known (s .pre .0) .most, l .loop .inv .1 .line-long)
+    omega (arith, c .before .before .landing .ensures .on, known (s .pre .0) .most, l .loop .inv .1 .line-long)
 
 joined-requires : tie.Need-joined-requires Inv-loop μ-loop
 joined-requires c κs = tt
 
 mul-line : tie.Need-mul-line Inv-loop μ-loop
 mul-line c =
-    let a = c .before .before .before .before in
-    let s = a .before .before .before .before .before .before .before .before .before in
-    omega (arith, a .arriving .ensures .on, known (s .pre .0) .most)
+    let l = c .before .before .before .before in
+    let s = l .before .before .before .before .before .before .before .before .before .before .before .before in
+    omega (arith, l .landing .ensures .on, known (s .pre .0) .most)
 
 array-set-from-line : tie.Need-array-set-from-line Inv-loop μ-loop
 array-set-from-line c =
-    let a = c .before .before .before .before in
-    let l = a .before .before .before .before .before in
-    let s = l .before .before .before .before in
-    omega (arith, a .arriving .ensures .on, known (s .pre .0) .most, l .loop .inv .1 .line-long)
+    let l = c .before .before .before .before in
+    let l₂ = l .before .before .before .before .before .before .before .before in
+    let s = l₂ .before .before .before .before in
+    omega (arith, l .landing .ensures .on, known (s .pre .0) .most, l₂ .loop .inv .1 .line-long)
 
 add-k : tie.Need-add-k Inv-loop μ-loop
 add-k c =
-    let l = c .before .before .before .before .before .before .before .before in
+    let l = c .before .before .before .before .before in
     let l₂ = l .before in
     let s = l₂ .before .before .before .before in
     omega (arith, l .loop-test .taken, l₂ .loop .inv .0, known (s .pre .0) .most)
 
 loop-less : tie.Need-loop-less Inv-loop μ-loop
-loop-less c = omega (arith, c .before .before .before .before .before .before .before .before .loop-test .taken)
+loop-less c = omega (arith, c .before .before .before .before .before .loop-test .taken)
 
 loop-again : tie.Need-loop-again Inv-loop μ-loop
 loop-again c =
-    let a = c .before .before .before .before in
-    let s = a .before in
-    let l = s .before .before .before in
+    let l = c .before .before .before .before .before in
     let l₂ = l .before in
-    let s₂ = l₂ .before .before .before .before in
+    let s = l₂ .before .before .before .before in
     let i = l₂ .loop .inv in
-    (i .0, settling-step (omega (arith, l .loop-test .taken, i .0)) (known (s₂ .pre .0) .most) (s .slot .ensures) (a .arriving .ensures) refl (c .joined .ensures) (i .1))
+    let h = l .loop-test .taken in
+    let k = known (s .pre .0) .most in
+    let e = c .before .before .slot .ensures in (
+      i .0,
+      ⊎-elim
+          (λ w. rw (w .7, w .8) (settling-step (omega (arith, h, i .0)) k e (arrives-some (w .0 .taken) (w .1 .ensures .0) (w .2 .ensures)) refl (w .6 .ensures) (i .1)))
+          (λ w. rw (w .1, w .2) (settling-none (omega (arith, h, i .0)) e (w .0 .left) (i .1)))
+          (c .if1 .came),
+    )
 
 same-length : tie.Need-same-length Inv-loop μ-loop
 same-length c = c .before .loop .inv .1 .long ∙ sym (c .before .before .before .before .before .pre .1 .long)
@@ -136,7 +152,8 @@ put-line-spec =
     mul-t23
     array-copy-out-t26
     slot-requires
-    arriving-requires
+    digit-requires
+    landing-requires
     mul-counts
     slice-read-counts
     add-counts
