@@ -68,7 +68,7 @@ module _ (marks : List ℕ) where
 module _ {s b : ℕ} {R : ℕ → Rec} {start : ℕ → ℕ} {T : ℕ → Cell} (z : Rising b R) (f : Fits b start)
     (one : (j : ℕ) → j < cells s → Holds R (At b start j) (T j)) where
   alone-shows : Shows s b R start T
-  alone-shows = record { cells = λ j u. holds-one (one j u) (content-holds z start f j) }
+  alone-shows = record { shown = λ j u. holds-one (one j u) (content-holds z start f j) }
 
 pub fits-alone : {b : ℕ} {start : ℕ → ℕ} → ((i j : ℕ) → j < b → i < j → start i ≡ start j → ⊥) → Fits b start
 fits-alone h i j k l m u e e′ = h i j (omega arith) l e

@@ -55,7 +55,7 @@ Made trip s n words marks aims T moved moved′ = Stood trip s n words marks aim
 -- lanes that were cleared
 pub cleared-by : (s : ℕ) {w m a w₂ m₂ a₂ w′ a′ w₂′ m₂′ a₂′ : List ℕ} → Sized (cells s) w m a w₂ m₂ a₂ → ((i : ℕ) → i < length m → getD m i 0 < 2)
     → w′ ≡ kept m w → a′ ≡ kept m a → w₂′ ≡ zeros w₂ → m₂′ ≡ zeros m₂ → a₂′ ≡ zeros a₂ → Cleared s w m a (cellAt w′ m a′ w₂′ m₂′ a₂′)
-cleared-by s {w} {m} {a} {w₂} {m₂} {a₂} {w′} {a′} {w₂′} {m₂′} {a₂′} z g p q p₂ q₂ o₂ = record { shown = λ j u. ⊎-elim (is j u) (isnt j u) (same? (getD m j 0) 1) }
+cleared-by s {w} {m} {a} {w₂} {m₂} {a₂} {w′} {a′} {w₂′} {m₂′} {a₂′} z g p q p₂ q₂ o₂ = record { cells = λ j u. ⊎-elim (is j u) (isnt j u) (same? (getD m j 0) 1) }
   where
     keeps : (l l′ : List ℕ) → length l ≡ cells s → l′ ≡ kept m l → (j : ℕ) → j < cells s → getD l′ j 0 ≡ keptAt m l j
     keeps l l′ n e j u = ap (λ (x : List ℕ). getD x j 0) e ∙ entry-at (keptAt m l) (length l) j 0 (omega arith)
