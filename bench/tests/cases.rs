@@ -261,12 +261,12 @@ fn a_bad_argument_comes_before_no_log_and_after_a_bad_lane() {
 
 #[test]
 fn the_stretch_of_a_group() {
-    let mut lane: Vec<u32> = (0..81).collect();
-    assert_eq!(words::stretch(3, &mut lane, 8), (72..81).collect::<Vec<u32>>());
+    let lane: Vec<u32> = (0..81).collect();
+    assert_eq!(words::stretch(3, &lane, 8), (72..81).collect::<Vec<u32>>());
     assert_eq!(words::stretch_answer(3, &lane, 8), accepted(0, 0));
-    assert!(words::stretch(3, &mut lane, 9).is_empty());
+    assert!(words::stretch(3, &lane, 9).is_empty());
     assert_eq!(words::stretch_answer(3, &lane, 9), refused(4, 0));
-    assert!(words::stretch(2, &mut lane, 0).is_empty());
+    assert!(words::stretch(2, &lane, 0).is_empty());
     assert_eq!(words::stretch_answer(2, &lane, 0), refused(2, 0));
     assert_eq!(words::stretch_answer(9, &lane, 0), refused(1, 0));
 }

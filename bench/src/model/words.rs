@@ -63,10 +63,10 @@ pub fn rank(side: usize, marks: &[u8], aims: &mut [u16], codes: &mut [u8]) -> An
 }
 
 /// The caller's own stretch of words for one group; empty where that is refused.
-pub fn stretch(side: usize, words: &mut [u32], group: usize) -> &mut [u32] {
+pub fn stretch(side: usize, words: &[u32], group: usize) -> &[u32] {
     match judge_stretch(side, words, group) {
-        Ok(board) => &mut words[group * board.places()..(group + 1) * board.places()],
-        Err(_) => &mut [],
+        Ok(board) => &words[group * board.places()..(group + 1) * board.places()],
+        Err(_) => &[],
     }
 }
 

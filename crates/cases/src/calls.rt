@@ -7,7 +7,6 @@ use crate::show;
 use crate::show::text;
 use crate::show::value;
 use answers::Answer;
-use clearing::zero_words;
 use lists::Trip;
 use ranking::rank;
 use shiftlists::Axis;
@@ -139,15 +138,13 @@ pub(crate) fn words_run(
     show::words(n, words);
 }
 
-// The stretch of a group as it is handed back, and all words after the caller has cleared it.
-pub(crate) fn group_run(side: usize, group: usize, lane: usize, mut words: [u32; 4096]) {
+// The stretch of a group as it is handed back, and all words.
+pub(crate) fn group_run(side: usize, group: usize, lane: usize, words: [u32; 4096]) {
     let n = within(lane);
     text(b"group words");
     value(group as u64);
     show::lent(side, n, 0);
     show::answer(group_words_answer(side, group, &words[..n]));
-    let part = group_words(side, group, &mut words[..n]);
-    show::part(&part[..]);
-    zero_words(part);
+    show::part(group_words(side, group, &words[..n]));
     show::words(n, words);
 }

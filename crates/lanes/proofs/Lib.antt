@@ -1,5 +1,6 @@
 pub mod Agreeing
 pub mod Coordinates
+pub mod Edges
 pub mod Held
 pub mod Laying
 pub mod Lines

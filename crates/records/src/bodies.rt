@@ -23,11 +23,11 @@ ghost use Rattle.refusals.specs.Cases.{Good};
 ghost use Rattle.records.specs.Entries.{FullRun, CutRun};
 ghost use Rattle.records.specs.Inside.{Performed};
 
-// Clears unmarked cells and spare lanes, and makes the first moves of the list, up to the cut.
+// Clears spare lanes and unmarked cells, and makes so many first moves of the list.
 fn perform(
     trip: Trip,
     side: usize,
-    cut: usize,
+    moves: usize,
     words: &mut [u32],
     marks: &mut [u8],
     aims: &mut [u16],
@@ -38,20 +38,20 @@ fn perform(
 )
     requires { ⌜ isSide side ≡ true ⌝ }
     requires { ⌜ Long (cells side) words marks aims «spare_words» «spare_marks» «spare_aims» ⌝ }
-    requires { ⌜ cut ≤ totalMoves side ⌝ }
+    requires { ⌜ moves ≤ totalMoves side ⌝ }
     requires { ⌜ Good trip side (now marks) (now aims) ⌝ }
-    ensures { λ _. ⌜ Performed trip side cut words marks aims «spare_words» «spare_marks» «spare_aims» moved ⌝ }
+    ensures { λ _. ⌜ Performed trip side moves words marks aims «spare_words» «spare_marks» «spare_aims» moved ⌝ }
 {
-    keep_words(marks, words);
-    keep_aims(marks, aims);
     zero_words(spare_words);
     zero_marks(spare_marks);
     zero_aims(spare_aims);
+    keep_words(marks, words);
+    keep_aims(marks, aims);
     run(
         trip,
         side,
         runs_of(trip, side),
-        cut,
+        moves,
         words,
         marks,
         aims,

@@ -60,8 +60,7 @@ pub fn judge_cut(
     if early.number != 0 {
         return early;
     }
-    refusing(
-        aims_case(trip, side, marks, aims),
-        refusing(cut_case(side, cut), early),
-    )
+    let aimed = aims_case(trip, side, marks, aims);
+    let beyond = cut_case(side, cut);
+    refusing(aimed, refusing(beyond, early))
 }

@@ -40,16 +40,16 @@ fn judge_group(side: usize, group: usize, length: usize) -> Answer
 }
 
 // The caller's own stretch of words of a group, or an empty one where that is refused.
-pub fn group_words(side: usize, group: usize, words: &mut [u32]) -> &mut [u32]
-    ensures { λ r. ⌜ now r ≡ groupWords side group (now (words .entry)) ⌝ }
+pub fn group_words(side: usize, group: usize, words: &[u32]) -> &[u32]
+    ensures { λ r. ⌜ now r ≡ groupWords side group (old words) ⌝ }
 {
     let answer = judge_group(side, group, words.len());
     if answer.number != 0 {
-        return &mut words[..0];
+        return &words[..0];
     }
     let n = side * side;
     let start = group * n;
-    &mut words[start..start + n]
+    &words[start..start + n]
 }
 
 // The number and the place of the same.

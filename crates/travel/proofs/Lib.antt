@@ -5,3 +5,4 @@ pub mod Shape
 pub mod Collide
 pub mod Range
 pub mod Turning
+pub mod Edges

@@ -153,13 +153,11 @@ fn stretches(side: usize) -> String {
     [0, board.places() - 1, board.places(), usize::MAX].map(at).concat()
 }
 
-/// The stretch as it is handed back, and all words after the caller has cleared it.
+/// The stretch as it is handed back, and all words.
 fn stretch_run(side: usize, group: usize, lane: usize) -> String {
-    let mut words = counted(1, lane);
+    let words = counted(1, lane);
     let head = format!("group words\t{group}") + &lent(side, lane, 0);
     let answer = words::stretch_answer(side, &words, group);
-    let part = words::stretch(side, &mut words, group);
-    let handed_back = row("part", part);
-    part.fill(0);
-    head + &answer_line(answer) + &handed_back + &row("words", &words)
+    let part = words::stretch(side, &words, group);
+    head + &answer_line(answer) + &row("part", part) + &row("words", &words)
 }

@@ -39,8 +39,8 @@ add-result c =
     let a = b .before .before .args in
     omega (arith, group-inside (a .side) (a .group) (length (a .words .now)) (b .judge-group .ensures) (c .if1 .left))
 
-mul-words : tie.Need-mul-words
-mul-words c =
+mul-result : tie.Need-mul-result
+mul-result c =
     let b = c .before .before in
     let a = b .before .before .args in
     omega (arith, group-inside (a .side) (a .group) (length (a .words .now)) (b .judge-group .ensures) (c .if1 .left))
@@ -48,11 +48,11 @@ mul-words c =
 sub-result : tie.Need-sub-result
 sub-result c = search needs
 
-part-words-start : tie.Need-part-words-start
-part-words-start c = search needs
+part-result-start : tie.Need-part-result-start
+part-result-start c = search needs
 
-part-words-end : tie.Need-part-words-end
-part-words-end c =
+part-result-end : tie.Need-part-result-end
+part-result-end c =
     let b = c .before .before in
     let a = b .before .before .args in
     omega (arith, group-inside (a .side) (a .group) (length (a .words .now)) (b .judge-group .ensures) (c .if1 .left))
@@ -77,8 +77,8 @@ group-words-spec =
     mul-n
     mul-start
     add-result
-    mul-words
+    mul-result
     sub-result
-    part-words-start
-    part-words-end
+    part-result-start
+    part-result-end
     returns-2)

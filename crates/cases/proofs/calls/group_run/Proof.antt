@@ -32,8 +32,8 @@ group-words-answer-requires c κs = search needs
 answer-requires : tie.Need-answer-requires
 answer-requires c κs = search needs
 
-array-borrow-prefix-words : tie.Need-array-borrow-prefix-words
-array-borrow-prefix-words c = search needs
+array-share-prefix-words-2 : tie.Need-array-share-prefix-words-2
+array-share-prefix-words-2 c = search needs
 
 slice-aggregate-group-words : tie.Need-slice-aggregate-group-words
 slice-aggregate-group-words c = sym (length-take-le _ _ (search needs))
@@ -43,9 +43,6 @@ group-words-requires c κs = search needs
 
 part-requires : tie.Need-part-requires
 part-requires c κs = search needs
-
-zero-words-requires : tie.Need-zero-words-requires
-zero-words-requires c κs = search needs
 
 words-requires : tie.Need-words-requires
 words-requires c κs = search needs
@@ -66,10 +63,9 @@ group-run-spec =
     slice-aggregate-group-words-answer
     group-words-answer-requires
     answer-requires
-    array-borrow-prefix-words
+    array-share-prefix-words-2
     slice-aggregate-group-words
     group-words-requires
     part-requires
-    zero-words-requires
     words-requires
     returns)
