@@ -11,9 +11,9 @@ use native.Mathlib.Omega.{arith}
 use lib.ListN.{length, getD, set, length-set}
 use lib.Arith.{digits-lt}
 use Rattle.laws.proofs.Deciding.{same?}
-use Rattle.laws.proofs.Trading.{Paired, Trading, Traded, traded-start, traded-turn, traded-end}
+use Rattle.laws.proofs.Trading.{Paired, Traded, traded-start, traded-turn, traded-end}
 use Rattle.array.specs.Cells.{isSide, groups, cells, cell, partner, isBoard}
-use Rattle.array.proofs.Board.{Side, side-known, group-of, place-of}
+use Rattle.array.proofs.Board.{side-known, group-of, place-of}
 use Rattle.light.specs.Lane.{swappedLane}
 use Rattle.light.specs.Inside.{Turned, GroupTurned}
 use Rattle.light.proofs.Turning.{paired, board-side, board-known, board-cells}

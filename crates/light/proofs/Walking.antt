@@ -20,7 +20,7 @@ use Rattle.light.specs.Lane.{swappedLane}
 use Rattle.light.specs.Counts.{markCount, leavesOf, leavingOf}
 use Rattle.light.specs.Lanes.{Slots, slots, onBoard, each, swappedBy, Table, Swapped}
 use Rattle.light.specs.Inside.{exchanged, Traded, Once, Times}
-use Rattle.light.proofs.Boards.{Boards, boards-known}
+use Rattle.light.proofs.Boards.{boards-known}
 use Rattle.light.proofs.Leaving.{turned, turned-start, turned-end, turned-trade, turned-skip, sum-paired-off}
 use Rattle.light.proofs.Turning.{Turning, board-known, board-side, board-cells, paired, turning-from, turning-inside, turning-turn, turning-waits, turning-end}
 

@@ -1,17 +1,16 @@
 -- How many records go in a move of a run, by how far those had to go that went in it.
-use Prim.Native.Nat.{ℕ, zero, suc, _+_, _-_, _*_, _/_, _%_, _≤_, _<_, min}
+use Prim.Native.Nat.{ℕ, zero, suc, _+_, _-_, _*_, _/_, _≤_, _<_, min}
 use mathlib.Core.Path.{_≡_, refl, sym, ap, ap₂, _∙_}
 use mathlib.Core.Bool.{Bool, true, false, cond, not}
 use native.Mathlib.Nat.{mod-lt}
 use native.Mathlib.Omega.{arith}
-use borrow.Author.Tests.{eq-eqb, ne-eqb, lt-ltb, le-ltb}
+use borrow.Author.Tests.{eq-eqb, ne-eqb, lt-ltb}
 use lib.Dec.{eqb, ltb}
 use Rattle.laws.specs.Sums.{sum}
 use Rattle.laws.proofs.Sums.{sum-cong}
 use Rattle.laws.proofs.Totals.{sum-zero, sum-point, sum-swap, sum-few, sum-plus}
-use Rattle.array.specs.declared.moves.Way.{Way}
 use Rattle.array.specs.Cells.{isSide, cells}
-use Rattle.array.proofs.Board.{Side, side-known}
+use Rattle.array.proofs.Board.{side-known}
 use Rattle.slots.specs.declared.Rec.{Rec}
 use Rattle.slots.specs.declared.Cell.{Cell}
 use Rattle.mesh.specs.declared.lines.LineRule.{LineRule}

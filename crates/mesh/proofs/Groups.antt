@@ -1,10 +1,10 @@
 -- The lines of a group make a run one after the other, and so do the groups of a board.
-use Prim.Native.Nat.{ℕ, zero, suc, _+_, _-_, _*_, _/_, _%_, _≤_, _<_}
+use Prim.Native.Nat.{ℕ, zero, suc, _+_, _-_, _*_, _/_, _≤_, _<_}
 use mathlib.Core.Path.{_≡_, refl, sym, ap, ap₂, subst, _∙_}
 use mathlib.Core.Logic.{⊎-elim}
 use mathlib.Core.Bool.{Bool, true, false, cond}
 use mathlib.Core.List.{List}
-use native.Mathlib.Nat.{suc-mul, mul-le-mul-right, mul-pos, div-add-mod', mod-lt, mod-le, add-zero, mul-one}
+use native.Mathlib.Nat.{suc-mul, mul-le-mul-right, div-add-mod', mod-le, add-zero, mul-one}
 use native.Mathlib.Numerals.{add-one}
 use native.Mathlib.Omega.{arith}
 use borrow.Author.Tests.{lt-ltb, le-ltb, eq-eqb, eqb-true}
@@ -18,15 +18,13 @@ use Rattle.laws.proofs.Sums.{sum-cong, sum-add, sum-blocks}
 use Rattle.laws.proofs.Totals.{sum-zero, sum-few, sum-swap}
 use Rattle.laws.proofs.Deciding.{apart, same?}
 use Rattle.array.specs.Cells.{groups, cells, group}
-use Rattle.array.proofs.Board.{group-of}
 use Rattle.slots.specs.declared.Rec.{Rec}
 use Rattle.slots.specs.declared.Cell.{Cell}
 use Rattle.mesh.specs.declared.lines.LineRule.{LineRule}
 use Rattle.mesh.specs.Lines.{headOf, reach, leaves, noneLeaves, cellsToGo, ranLine, wentOf, wentFrom}
 use Rattle.mesh.specs.Mesh.{spotOf, lineCell, ranOn, wentIn, RanLanes}
 use Rattle.mesh.specs.Inside.{Strided, lineStep, movingGroups, Lies, RanLine, RanGroup, RanPart}
-use Rattle.mesh.proofs.Slots.{distinct}
-use Rattle.mesh.proofs.Spots.{by-stride, run-same, lineOf, Spotted, Split, spotted, split, line-in, line-cell, ran-spotted, ran-part, spot-shifted}
+use Rattle.mesh.proofs.Spots.{by-stride, run-same, lineOf, spotted, split, line-in, ran-spotted, ran-part}
 
 -- few records leave a cell, and so a line and a group
 went-few : (t : LineRule) (d p : ℕ) (x : Rec) → wentOf t d p x ≤ 1

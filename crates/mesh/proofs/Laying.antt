@@ -23,7 +23,7 @@ use Rattle.slots.specs.declared.Cell.{Cell}
 use Rattle.slots.specs.Cells.{empty, joined, cellAt}
 use Rattle.mesh.specs.declared.lines.LineRule.{LineRule}
 use Rattle.mesh.specs.declared.lines.Arrival.{Arrival}
-use Rattle.mesh.specs.Lines.{headOf, endOf, reach, leaves, noneLeaves, isStill, landed, laid, ranLine, cellsToGo, wentOf, wentFrom}
+use Rattle.mesh.specs.Lines.{headOf, endOf, reach, leaves, noneLeaves, isStill, landed, laid, cellsToGo, wentOf, wentFrom}
 use Rattle.mesh.specs.Inside.{goneOf, slotOf, slotIn, slotsAt, Taken, Laid, cellsOf, Lands, Arrives, settled, PutDown, RanLine}
 use Rattle.mesh.proofs.Walking.{leaves-gone}
 use Rattle.mesh.proofs.Ruling.{distance-few}

@@ -1,13 +1,12 @@
 -- A group's stretch of six lanes, lent and back: the cells of the part, and of the whole once the part is back.
 use Prim.Native.Nat.{ℕ, _+_, _-_, _*_, _≤_, _<_}
-use mathlib.Core.Path.{_≡_, refl, sym, ap, ap₂, _∙_}
+use mathlib.Core.Path.{_≡_, sym, ap, ap₂, _∙_}
 use mathlib.Core.List.{List, _++_}
 use native.Mathlib.Omega.{arith}
 use lib.ListN.{length, getD, take, drop, length-drop, List·getD-append}
 use lib.Seq.{getD-take, getD-drop, getD-append-add, length-take-le}
 use denote.Ref.{now}
 use Rattle.laws.specs.Lent.{Lent}
-use Rattle.laws.specs.Sums.{sum}
 use Rattle.laws.proofs.Sums.{sum-cong}
 use Rattle.array.specs.Cells.{groups}
 use Rattle.slots.specs.declared.Cell.{Cell}

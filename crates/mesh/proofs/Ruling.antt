@@ -1,18 +1,18 @@
 -- What a rule of a board is known by: the digit of an aim by a product, and that its numbers are small.
-use Prim.Native.Nat.{ℕ, _+_, _-_, _*_, _/_, _%_, _≤_, _<_}
+use Prim.Native.Nat.{ℕ, _-_, _*_, _/_, _%_, _≤_, _<_}
 use mathlib.Core.Path.{_≡_, sym, ap, _∙_}
-use mathlib.Core.Bool.{Bool, true, false, cond, not}
+use mathlib.Core.Bool.{Bool, true, false, cond}
 use native.Mathlib.Nat.{mod-lt, mul-pos, mul-le-mul-right}
 use native.Mathlib.Omega.{arith}
 use borrow.Author.Tests.{eq-eqb, ne-eqb}
-use lib.Dec.{eqb, ltb}
+use lib.Dec.{ltb}
 use Rattle.array.proofs.Board.{Side, side-known}
 use Rattle.slots.specs.declared.Rec.{Rec}
 use Rattle.mesh.specs.declared.lines.LineRule.{LineRule}
 use Rattle.mesh.specs.Lines.{digitOf, headOf, reach, leaves, cellsToGo}
-use Rattle.mesh.specs.Inside.{shareOf, goneOf, Ruled}
+use Rattle.mesh.specs.Inside.{goneOf, Ruled}
 use Rattle.mesh.proofs.Fractions.{digit-told, share-fits}
-use Rattle.mesh.proofs.Walking.{leaves-gone, gone-far, ends-in}
+use Rattle.mesh.proofs.Walking.{leaves-gone, ends-in}
 
 module _ {t : LineRule} {share : ℕ} (z : Ruled t share) where
   pub known : Side (t .side)

@@ -2,17 +2,15 @@
 use Prim.Native.Nat.{ℕ, zero, suc, _+_, _-_, _*_, _/_, _%_, _≤_, _<_}
 use mathlib.Core.Path.{_≡_, refl, sym, ap, ap₂, _∙_}
 use mathlib.Core.Logic.{_⊎_, ⊎-elim}
-use mathlib.Core.Bool.{Bool, true, false, cond}
 use native.Mathlib.Nat.{mod-lt, div-one, mul-one, mul-assoc, mul-add-mod-self-right, mul-add-div-right, div-lt-iff-lt-mul, mod-eq-of-lt, div-add-mod'}
 use native.Mathlib.Omega.{arith}
-use borrow.Author.Tests.{eq-eqb, ne-eqb, eqb-true, eqb-false}
-use lib.Dec.{eqb}
+use borrow.Author.Tests.{eq-eqb, ne-eqb}
 use lib.Arith.{digits-div, digits-mod, digits-lt}
 use Rattle.laws.proofs.Deciding.{same?}
 use Rattle.array.specs.Cells.{groups}
 use Rattle.slots.specs.declared.Cell.{Cell}
 use Rattle.mesh.specs.declared.lines.LineRule.{LineRule}
-use Rattle.mesh.specs.Lines.{noneLeaves, landed, laid, ranLine}
+use Rattle.mesh.specs.Lines.{landed, laid, ranLine}
 use Rattle.mesh.specs.Mesh.{spotOf, lineCell, ranOn}
 use Rattle.mesh.specs.Inside.{Strided, lineStep}
 use Rattle.mesh.proofs.Slots.{leaves-same}

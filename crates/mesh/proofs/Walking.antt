@@ -8,7 +8,7 @@ use borrow.Author.Tests.{lt-ltb, le-ltb, ltb-true, eq-eqb, ne-eqb}
 use lib.Dec.{ltb, eqb}
 use Rattle.laws.proofs.Deciding.{apart}
 use Rattle.mesh.specs.declared.lines.LineRule.{LineRule}
-use Rattle.mesh.specs.Lines.{waitOf, stepOf, reach, cellsToGo, goesIn}
+use Rattle.mesh.specs.Lines.{reach, cellsToGo, goesIn}
 use Rattle.mesh.specs.Inside.{goneOf}
 
 -- one move of a record in cell x that heads for h and waits w off its place

@@ -1,5 +1,5 @@
 -- A list of runs as it is made: what is left of the list leads from the cells and the log as they are to those of the whole.
-use Prim.Native.Nat.{ℕ, zero, suc, _+_, _-_, _*_, _≤_, _<_, min}
+use Prim.Native.Nat.{ℕ, suc, _+_, _-_, _*_, _≤_, _<_, min}
 use mathlib.Core.Path.{_≡_, refl, sym, ap, ap₂, subst, _∙_}
 use mathlib.Core.Bool.{Bool, true, false, cond}
 use mathlib.Core.List.{List, [], _∷_, _++_}
@@ -16,19 +16,18 @@ use Rattle.laws.proofs.Sums.{sum-cong}
 use Rattle.laws.proofs.Totals.{sum-zero}
 use Rattle.laws.proofs.Tables.{length-entries, entry-at, entries-cong}
 use Rattle.laws.proofs.Stores.{Storing, storing-start, storing-next, storing-all, sets-append}
-use Rattle.array.specs.declared.moves.Way.{Way}
 use Rattle.array.specs.declared.moves.Way.the-variants.{Right}
 use Rattle.array.specs.declared.moves.Move.{Move}
 use Rattle.array.specs.declared.moves.Move.the-variants.{Swap, Electronic}
-use Rattle.array.specs.Cells.{isSide, cells, partner}
-use Rattle.array.proofs.Board.{side-known, partner-in}
+use Rattle.array.specs.Cells.{isSide, cells}
+use Rattle.array.proofs.Board.{side-known}
 use Rattle.runs.specs.declared.Run.{Run}
 use Rattle.runs.specs.Runs.{swapsIn}
 use Rattle.lists.specs.declared.Trip.{Trip}
 use Rattle.slots.specs.declared.Cell.{Cell}
 use Rattle.mesh.specs.declared.Leg.{Leg}
 use Rattle.mesh.specs.Lines.{goesAt, goesIn}
-use Rattle.mesh.specs.Mesh.{lineRuleOf, spotOf, ranOn, goneIn, wentIn, RanLanes}
+use Rattle.mesh.specs.Mesh.{lineRuleOf, spotOf, ranOn, goneIn, RanLanes}
 use Rattle.mesh.proofs.Groups.{ran-nothing as leg-nothing, went-nothing}
 use Rattle.mesh.proofs.Legs.{stride-pos, ran-same}
 use Rattle.mesh.proofs.Counting.{gone-by-went, gone-made, gone-few, went-few}

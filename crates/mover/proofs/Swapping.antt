@@ -1,5 +1,5 @@
 -- Swaps of six lanes by what they do to their cells: every cell holds what its partner held.
-use Prim.Native.Nat.{ℕ, zero, suc, _+_, _*_, _≤_, _<_}
+use Prim.Native.Nat.{ℕ, zero, suc, _+_, _≤_, _<_}
 use mathlib.Core.Path.{_≡_, refl, sym, ap, ap₂, _∙_}
 use mathlib.Core.Logic.{⊎-elim}
 use mathlib.Core.Bool.{Bool, true, false, cond}
@@ -8,7 +8,6 @@ use native.Mathlib.Omega.{arith}
 use borrow.Author.Tests.{eq-eqb, ne-eqb}
 use lib.Dec.{eqb}
 use lib.ListN.{length, getD}
-use Rattle.laws.specs.Sums.{sum}
 use Rattle.laws.proofs.Deciding.{same?}
 use Rattle.laws.proofs.Sums.{sum-cong}
 use Rattle.laws.proofs.Totals.{sum-few, sum-plus}
@@ -16,8 +15,7 @@ use Rattle.laws.proofs.Tables.{entry-at, length-entries}
 use Rattle.laws.proofs.Trading.{Paired}
 use Rattle.array.specs.Cells.{isSide, cells, partner, isBoard}
 use Rattle.array.proofs.Board.{side-known, partner-in}
-use Rattle.light.specs.Lane.{swappedLane}
-use Rattle.light.specs.Counts.{leavesOf, leavingOf}
+use Rattle.light.specs.Counts.{leavesOf}
 use Rattle.light.specs.Lanes.{Slots, slots, each, swappedBy, Table, Swapped}
 use Rattle.light.proofs.Leaving.{sum-paired-off}
 use Rattle.light.proofs.Turning.{paired}

@@ -3,7 +3,7 @@ use Prim.Native.Nat.{ℕ}
 use mathlib.Core.List.{List, [], _∷_}
 use lib.ListN.{replicate}
 use Rattle.answers.specs.Answers.{accepted}
-use Rattle.stars.specs.Rows.{Lanes, Row, wordsOnly}
+use Rattle.stars.specs.Rows.{Row, wordsOnly}
 
 -- 0 in every cell of side 2
 abbrev pub none : List ℕ

@@ -3,7 +3,6 @@ use Prim.Native.Nat.{ℕ, _+_, _*_, _≤_, _<_}
 use mathlib.Core.Path.{_≡_, refl, sym, ap, _∙_}
 use mathlib.Core.List.{List, []}
 use native.Mathlib.Nat.{suc-mul, mul-le-mul-right}
-use native.Mathlib.Omega.{arith}
 use lib.ListN.{length, take, drop}
 use borrow.Author.Tests.{not-false, ltb-true, eq-eqb, ne-eqb}
 use Rattle.answers.specs.declared.Answer.{Answer}

@@ -1,8 +1,7 @@
 -- `light::next` meets its contract: by the list, or one place on, or one group on.
-use mathlib.Core.Path.{_∙_, sym}
+use mathlib.Core.Path.{_∙_}
 use native.Mathlib.Omega.{arith}
-use Rattle.array.specs.Cells.{isSide, cells, groups, partner}
-use Rattle.array.proofs.Board.{Side, side-known, partner-in}
+use Rattle.array.proofs.Board.{side-known, partner-in}
 use Rattle.light.proofs.Partners.{partner-on, partner-over}
 use borrow.Author.Needs.{needs}
 use Rattle.light.proofs.next.Statement.{statement}

@@ -1,4 +1,3 @@
-use mathlib.Core.Path.{refl}
 use borrow.Author.Needs.{needs}
 use Rattle.light.proofs.Partners.{listed-links, listed-none}
 use Rattle.light.proofs.Walking.{some-counted, swapped-counted}

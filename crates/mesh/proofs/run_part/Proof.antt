@@ -8,7 +8,6 @@ use Rattle.array.specs.Cells.{groups, cells}
 use Rattle.slots.specs.Cells.{Sized}
 use Rattle.mesh.proofs.Ruling.{known}
 use Rattle.mesh.proofs.Parts.{part-sized, part-ran}
-use borrow.Author.Needs.{needs}
 use Rattle.mesh.proofs.run_part.Statement.{statement}
 use Rattle.mesh.proofs.run_part.Tie as tie
 

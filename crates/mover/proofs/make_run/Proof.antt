@@ -1,12 +1,9 @@
-use mathlib.Core.Path.{_≡_, refl}
-use mathlib.Core.Bool.{true}
 use native.Mathlib.Omega.{arith}
 use Rattle.array.specs.Cells.{cells}
 use Rattle.slots.specs.Cells.{Sized}
 use Rattle.slots.proofs.Boards.{lanes-are}
 use Rattle.mover.proofs.Swapping.{cells-swapped, swap-count}
 use Rattle.mover.proofs.Running.{made-so}
-use borrow.Author.Needs.{needs}
 use Rattle.mover.proofs.make_run.Statement.{statement}
 use Rattle.mover.proofs.make_run.Tie as tie
 use Rattle.light.proofs.swap_lanes.Reads as swap-lanes-reads

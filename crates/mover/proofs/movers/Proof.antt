@@ -1,5 +1,4 @@
 use Prim.Native.Nat.{_-_}
-use mathlib.Core.Path.{refl}
 use native.Mathlib.Omega.{arith}
 use Rattle.mover.proofs.Running.{Adding, adding-start, adding-next, adding-end}
 use Rattle.mover.proofs.movers.Statement.{statement}

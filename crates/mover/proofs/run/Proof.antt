@@ -2,7 +2,7 @@ use mathlib.Core.Bool.{Bool}
 use lib.Seq.{sets}
 use Rattle.laws.specs.Tables.{entries}
 use Rattle.mover.specs.Inside.{tallied}
-use Prim.Native.Nat.{_-_, _≤_, min}
+use Prim.Native.Nat.{_-_, _≤_}
 use mathlib.Core.Path.{_≡_, refl, sym, ap, _∙_}
 use native.Mathlib.Omega.{arith}
 use borrow.Author.Tests.{not-true, not-false}
@@ -10,7 +10,6 @@ use lib.ListN.{length, getD}
 use Rattle.array.specs.declared.moves.Move.the-variants.{Swap}
 use Rattle.array.specs.Cells.{cells}
 use Rattle.array.proofs.Board.{side-known}
-use Rattle.runs.specs.declared.Run.{Run}
 use Rattle.slots.specs.Cells.{Sized, cellAt}
 use Rattle.slots.proofs.Boards.{BoardLanes, lanes-known}
 use Rattle.mover.specs.Runs.{isLate}

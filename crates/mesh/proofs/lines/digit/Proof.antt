@@ -1,5 +1,5 @@
 use mathlib.Core.Path.{_∙_, ap}
-use Prim.Native.Nat.{ℕ, _<_, _*_, _/_, _%_}
+use Prim.Native.Nat.{_*_, _/_, _%_}
 use mathlib.Core.Path.{_≡_}
 use Rattle.mesh.specs.Lines.{digitOf}
 use native.Mathlib.Omega.{arith}

@@ -1,5 +1,4 @@
 use mathlib.Core.Path.{refl, sym, _∙_}
-use native.Mathlib.Omega.{arith}
 use borrow.Author.Tests.{not-true, not-false}
 use Rattle.mesh.proofs.Laying.{ran-moved, ran-still, still-told}
 use borrow.Author.Needs.{needs}

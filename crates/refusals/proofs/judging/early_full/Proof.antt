@@ -1,6 +1,5 @@
 -- `refusals::judging::early_full` meets its contract: the logs and the marks behind the lanes.
-use Prim.Native.Nat.{ℕ}
-use mathlib.Core.Path.{_≡_, ap, _∙_}
+use mathlib.Core.Path.{ap, _∙_}
 use mathlib.Core.List.{List}
 use lib.ListN.{length}
 use Rattle.runs.specs.declared.Run.{Run}
