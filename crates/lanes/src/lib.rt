@@ -10,7 +10,8 @@ ghost use lib.ListN.{length};
 ghost use Rattle.array.specs.Cells.{isBoard};
 ghost use Rattle.lanes.specs.Runs.{isRun, ranWords};
 
-// How a cell takes a word: it adds it, or has it in place of its own, when it is the turn of its position; or it fills itself with it always.
+// What a cell does with the word that it receives. Add: it adds the word to its own. Copy: it keeps the word in place of its own. Both happen
+// only in the move in which its position has its turn. Fill: in every move it keeps what it receives, and 0 where it receives nothing.
 pub enum Joining {
     Add,
     Copy,
@@ -28,7 +29,8 @@ fn is_run(side: usize, e: usize, n: usize, length: usize) -> bool
     false
 }
 
-// n moves one way; with a front they start at position e.
+// n moves one way. With Add and Copy one position of each line has its turn in a move: position e in the first, the next one in the second, and
+// so on.
 pub fn run(side: usize, way: Way, joining: Joining, e: usize, n: usize, words: &mut [u32])
     ensures { λ _. ⌜ now (words .exit) ≡ ranWords side way joining e n (now (words .entry)) ⌝ }
 {
