@@ -18,7 +18,7 @@ use Rattle.array.specs.Cells.{isSide, cells, partner, isBoard}
 use Rattle.array.proofs.Board.{Side}
 use Rattle.light.specs.Lane.{swappedLane}
 use Rattle.light.specs.Counts.{markCount, leavesOf, leavingOf}
-use Rattle.light.specs.Lanes.{Slots, slots, onBoard, each, swappedBy, Table, Swapped}
+use Rattle.light.specs.Lanes.{Slots, slots, onBoard, each, swappedBy, swapsOn, Swapped}
 use Rattle.light.specs.Inside.{exchanged, Traded, Once, Times}
 use Rattle.light.proofs.Boards.{boards-known}
 use Rattle.light.proofs.Leaving.{turned, turned-start, turned-end, turned-trade, turned-skip, sum-paired-off}
@@ -168,17 +168,18 @@ pub times-end : {s n j : ℕ} {t u : Slots} {r : ℕ} → n ≤ j → j ≤ n �
 times-end {s} {n} {j} {t} {u} {r} h k z = let e : j ≡ n = omega arith in rw e at z
 
 -- front slots and spare slots
-pub both-swapped : {s n : ℕ} {t t₂ u u₂ : Slots} {a b r : ℕ} → Times s n t u a → Times s n t₂ u₂ b → r ≡ a + b → Swapped s n (record { front = t; spare = t₂ }) (record { front = u; spare = u₂ }) r
-both-swapped {s} {n} {t} {t₂} y z e = record { front = y .lanes; spare = z .lanes; count = e ∙ ap₂ _+_ (y .count) (z .count) ∙ go (eqb n 0) }
-  where
-    go : (b : Bool) → cond b 0 (leavingOf s (t .marks)) + cond b 0 (leavingOf s (t₂ .marks)) ≡ cond b 0 (leavingOf s (t .marks) + leavingOf s (t₂ .marks))
-    go true = refl
-    go false = refl
+pub both-swapped : {s n : ℕ} {t t₂ u u₂ : Slots} {a b r : ℕ} → Times s (swapsOn s n t) t u a → Times s (swapsOn s n t₂) t₂ u₂ b → r ≡ a + b
+    → Swapped s n (record { front = t; spare = t₂ }) (record { front = u; spare = u₂ }) r
+both-swapped y z e = record { front = y .lanes; spare = z .lanes; count = e ∙ ap₂ _+_ (y .count) (z .count) }
 
 -- as many swaps as there are to make, and some only of a board
-pub some-counted : (a : Bool) (times : ℕ) {b : Bool} {n : ℕ} → n ≡ cond a times 0 → a ≡ b → 0 < n → b ≡ true
-some-counted true times e f h = sym f
-some-counted false times e f h = absurd (omega arith)
+module _ (s times : ℕ) (t : Slots) {n : ℕ} {a : Bool} (f : a ≡ onBoard s t) (e : n ≡ cond a times 0) where
+  pub some-counted : 0 < n → onBoard s t ≡ true
+  some-counted h = sym f ∙ go a e
+    where
+      go : (b : Bool) → n ≡ cond b times 0 → b ≡ true
+      go true g = refl
+      go false g = absurd (omega arith)
 
-pub swapped-counted : (a b : Bool) (times : ℕ) {s n : ℕ} {t u : Table} {r : ℕ} → n ≡ cond a times 0 → a ≡ b → Swapped s n t u r → Swapped s (cond b times 0) t u r
-swapped-counted a b times {s = s} {t = t} {u} {r} e f z = subst (λ (k : ℕ). Swapped s k t u r) (e ∙ ap (λ (c : Bool). cond c times 0) f) z
+  pub times-counted : {u : Slots} {r : ℕ} → Times s n t u r → Times s (swapsOn s times t) t u r
+  times-counted {u} {r} z = subst (λ (k : ℕ). Times s k t u r) (e ∙ ap (λ (b : Bool). cond b times 0) f) z

@@ -10,7 +10,7 @@ use Rattle.laws.specs.Lent.{Slice, Lent, old, new}
 use Rattle.array.specs.Cells.{cells, cell, partner}
 use Rattle.light.specs.Lane.{swappedLane}
 use Rattle.light.specs.Counts.{markCount, leavingOf}
-use Rattle.light.specs.Lanes.{areLanes, Slots, slots, each, swappedBy, tableBefore, tableAfter, Swapped}
+use Rattle.light.specs.Lanes.{Slots, slots, each, swappedBy, swapsOn}
 
 -- a list of partners, as far as it goes; an empty one is as good
 pub record Listed (s : ℕ) (list : List ℕ) : Type 0 where
@@ -28,10 +28,6 @@ pub record GroupTurned (s g : ℕ) (l l′ : List ℕ) : Type 0 where
 -- a slot's lanes in a requires
 abbrev pub lent : Slice → Slice → Slice → Slots
 lent w m a = slots (now w) (now m) (now a)
-
-abbrev pub lentBoard : ℕ → Slice → Slice → Slice → Slice → Slice → Slice → Bool
-lentBoard s w m a w₂ m₂ a₂ =
-    areLanes s (length (now w)) (length (now m)) (length (now a)) (length (now w₂)) (length (now m₂)) (length (now a₂))
 
 -- three lanes have a cell p
 abbrev pub HasCell : ℕ → Slice → Slice → Slice → Type 0
@@ -69,7 +65,4 @@ pub record Times (s n : ℕ) (t u : Slots) (r : ℕ) : Type 0 where
   pub few : r ≤ 4096
 
 abbrev pub TradedTimes : ℕ → ℕ → Lent → Lent → Lent → ℕ → Type 0
-TradedTimes s n w m a r = Times s n (slots (old w) (old m) (old a)) (slots (new w) (new m) (new a)) r
-
-abbrev pub TradedLanes : ℕ → ℕ → Lent → Lent → Lent → Lent → Lent → Lent → ℕ → Type 0
-TradedLanes s n w m a w₂ m₂ a₂ r = Swapped s n (tableBefore w m a w₂ m₂ a₂) (tableAfter w m a w₂ m₂ a₂) r
+TradedTimes s n w m a r = Times s (swapsOn s n (slots (old w) (old m) (old a))) (slots (old w) (old m) (old a)) (slots (new w) (new m) (new a)) r

@@ -55,12 +55,23 @@ tableBefore w m a w₂ m₂ a₂ = record { front = slots (old w) (old m) (old a
 abbrev pub tableAfter : Lent → Lent → Lent → Lent → Lent → Lent → Table
 tableAfter w m a w₂ m₂ a₂ = record { front = slots (new w) (new m) (new a); spare = slots (new w₂) (new m₂) (new a₂) }
 
+-- how many swaps are made of n on a slot's lanes: none, where they are not a board's
+abbrev pub swapsOn : ℕ → ℕ → Slots → ℕ
+swapsOn s n t = cond (onBoard s t) n 0
+
+-- the lanes after them, and how many of their records each takes to another cell
+abbrev pub afterSwaps : ℕ → ℕ → Slots → Slots
+afterSwaps s n t = each (swappedBy s (swapsOn s n t)) t
+
+abbrev pub leavingSlots : ℕ → ℕ → Slots → ℕ
+leavingSlots s n t = cond (eqb (swapsOn s n t) 0) 0 (leavingOf s (t .marks))
+
 -- table t after n swaps, of which each takes r records to another cell
 pub record Swapped (s n : ℕ) (t u : Table) (r : ℕ) : Type 0 where
-  pub front : u .front ≡ each (swappedBy s n) (t .front)
-  pub spare : u .spare ≡ each (swappedBy s n) (t .spare)
-  pub count : r ≡ cond (eqb n 0) 0 (leavingOf s (t .front .marks) + leavingOf s (t .spare .marks))
+  pub front : u .front ≡ afterSwaps s n (t .front)
+  pub spare : u .spare ≡ afterSwaps s n (t .spare)
+  pub count : r ≡ leavingSlots s n (t .front) + leavingSlots s n (t .spare)
 
--- n swaps of lent lanes; none, where they are not a board's
+-- n swaps of lent lanes
 abbrev pub SwappedLanes : ℕ → ℕ → Lent → Lent → Lent → Lent → Lent → Lent → ℕ → Type 0
-SwappedLanes s n w m a w₂ m₂ a₂ r = Swapped s (cond (haveBoard s w m a w₂ m₂ a₂) n 0) (tableBefore w m a w₂ m₂ a₂) (tableAfter w m a w₂ m₂ a₂) r
+SwappedLanes s n w m a w₂ m₂ a₂ r = Swapped s n (tableBefore w m a w₂ m₂ a₂) (tableAfter w m a w₂ m₂ a₂) r

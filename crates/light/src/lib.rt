@@ -9,7 +9,7 @@ ghost use Rattle.array.specs.Cells.{isBoard, isSide, groups, cells, cell, partn
 ghost use Rattle.light.specs.Lane.{swappedLane};
 ghost use Rattle.light.specs.Counts.{markCount};
 ghost use Rattle.light.specs.Lanes.{areSlots, areLanes, onBoard, SwappedLanes};
-ghost use Rattle.light.specs.Inside.{Listed, GroupTurned, lent, lentBoard, HasCell, Exchanged, TradedSlot, SwappedOnce, TradedTimes, TradedLanes};
+ghost use Rattle.light.specs.Inside.{Listed, GroupTurned, lent, HasCell, Exchanged, TradedSlot, SwappedOnce, TradedTimes};
 
 // Three lanes of these lengths are those of a board's front slots, or of its spare ones.
 fn are_slots(side: usize, words: usize, marks: usize, aims: usize) -> bool
@@ -187,7 +187,13 @@ fn trade_slots(
     moved
 }
 
-// So many swaps of one slot's lanes; how many of their records each takes to another cell, where there is one.
+fn counted(are: bool, times: usize) -> usize
+    ensures { λ r. ⌜ r ≡ cond are times 0 ⌝ }
+{
+    if are { times } else { 0 }
+}
+
+// So many swaps of one slot's lanes, where they are a board's, and none else; how many of their records each takes to another cell.
 fn trade_times(
     side: usize,
     times: usize,
@@ -196,43 +202,17 @@ fn trade_times(
     marks: &mut [u8],
     aims: &mut [u16],
 ) -> usize
-    requires { ⌜ (0 < times → onBoard side (lent words marks aims) ≡ true) ⌝ }
     requires { ⌜ Listed side (now list) ⌝ }
     ensures { λ r. ⌜ TradedTimes side times words marks aims r ⌝ }
 {
+    let n = counted(are_slots(side, words.len(), marks.len(), aims.len()), times);
     let mut moved: usize = 0;
     let mut j: usize = 0;
-    while j < times {
+    while j < n {
         moved = trade_slots(side, list, words, marks, aims);
         j += 1;
     }
     moved
-}
-
-// The same in both slots.
-fn trade_lanes(
-    side: usize,
-    times: usize,
-    list: &[u16],
-    words: &mut [u32],
-    marks: &mut [u8],
-    aims: &mut [u16],
-    spare_words: &mut [u32],
-    spare_marks: &mut [u8],
-    spare_aims: &mut [u16],
-) -> usize
-    requires { ⌜ (0 < times → lentBoard side words marks aims «spare_words» «spare_marks» «spare_aims» ≡ true) ⌝ }
-    requires { ⌜ Listed side (now list) ⌝ }
-    ensures { λ r. ⌜ TradedLanes side times words marks aims «spare_words» «spare_marks» «spare_aims» r ⌝ }
-{
-    let front = trade_times(side, times, list, words, marks, aims);
-    front + trade_times(side, times, list, spare_words, spare_marks, spare_aims)
-}
-
-fn counted(are: bool, times: usize) -> usize
-    ensures { λ r. ⌜ r ≡ cond are times 0 ⌝ }
-{
-    if are { times } else { 0 }
 }
 
 // The board of side 8 goes by its link list, where there is a swap to make.
@@ -245,7 +225,7 @@ fn by_links(side: usize, times: usize) -> bool
     side == 8
 }
 
-// So many swaps of all six lanes; how many records each takes to another cell. Lanes that are not a board's stay.
+// So many swaps of all six lanes; how many records each takes to another cell. A slot's lanes that are not a board's stay.
 pub fn swap_lanes(
     side: usize,
     times: usize,
@@ -258,42 +238,20 @@ pub fn swap_lanes(
 ) -> usize
     ensures { λ r. ⌜ SwappedLanes side times words marks aims «spare_words» «spare_marks» «spare_aims» r ⌝ }
 {
-    let n = counted(
-        are_lanes(
-            side,
-            words.len(),
-            marks.len(),
-            aims.len(),
-            spare_words.len(),
-            spare_marks.len(),
-            spare_aims.len(),
-        ),
-        times,
-    );
-    if by_links(side, n) {
+    if by_links(side, times) {
         let list = links();
-        return trade_lanes(
+        let front = trade_times(side, times, &list[..], words, marks, aims);
+        return front + trade_times(side, times, &list[..], spare_words, spare_marks, spare_aims);
+    }
+    let none = [0u16; 1];
+    let front = trade_times(side, times, &none[..0], words, marks, aims);
+    front
+        + trade_times(
             side,
-            n,
-            &list[..],
-            words,
-            marks,
-            aims,
+            times,
+            &none[..0],
             spare_words,
             spare_marks,
             spare_aims,
-        );
-    }
-    let none = [0u16; 1];
-    trade_lanes(
-        side,
-        n,
-        &none[..0],
-        words,
-        marks,
-        aims,
-        spare_words,
-        spare_marks,
-        spare_aims,
-    )
+        )
 }

@@ -33,7 +33,7 @@ use Rattle.mesh.proofs.Legs.{stride-pos, ran-same}
 use Rattle.mesh.proofs.Counting.{gone-by-went, gone-made, gone-few, went-few}
 use Rattle.mover.specs.declared.Tally.{Tally}
 use Rattle.mover.specs.Runs.{isLate, legOf, swapped, ranBy, goneBy, madeOf, after, movedLog, Ran}
-use Rattle.mover.specs.Inside.{legIn, movers, tallied, FewWent, leaving, Made, RanRun}
+use Rattle.mover.specs.Inside.{legIn, movers, tallied, FewWent, leaving, Made, MadeRun, RanRun}
 use Rattle.mover.proofs.Swapping.{leaving-few, leaving-same, leaving-swaps, swaps-same}
 
 -- counts put into the log, from a place on
@@ -85,17 +85,19 @@ adding-end {late} {times} {went} {j} {d} h z =
     z .sum-is ∙ ap (λ (n : ℕ). sum n (λ e. cond (goesIn late times j e) (getD went e 0) 0)) e
 
 -- a run by what the mesh and the light say of it
-module _ {l : Leg} {n : ℕ} {lanes : Bool} {T C T′ : ℕ → Cell} {went : List ℕ} {swaps : ℕ} (side : isSide (l .side) ≡ true) (on : lanes ≡ true) (r : RanLanes lanes (lineRuleOf l) went T C)
-    (q : (i : ℕ) → i < cells (l .side) → T′ i ≡ swapped (l .side) n C i) (k : swaps ≡ cond (eqb n 0) 0 (leaving (l .side) C)) where
-  pub made-so : Made l n (record { went = went; swapped = swaps }) T T′
-  made-so = record {
-    made = λ i h. q i h ∙ swaps-same (l .side) (side-known (l .side) side .least) n (r .made on) i h;
-    went = r .went on;
-    swaps = k ∙ ap (cond (eqb n 0) 0) (leaving-same (l .side) (r .made on));
-  }
-
-pub went-some : {l : Leg} {n : ℕ} {t : Tally} {T T′ : ℕ → Cell} → isSide (l .side) ≡ true → Made l n t T T′ → FewWent (t .went)
-went-some {l} {T = T} side z = record { few = λ d h. omega (arith, z .went d h, went-few l d T, side-known (l .side) side .cells-few) }
+pub made-run : (trip : Trip) (s swaps : ℕ) (r : Run) {k m n : ℕ} {lanes : Bool} {T C T′ : ℕ → Cell} {went : List ℕ} {count : ℕ} → isSide s ≡ true → lanes ≡ true
+    → m ≡ madeOf r k → n ≡ swapsIn (r .step) m → RanLanes lanes (lineRuleOf (legIn trip s swaps (r .step) (r .times) m)) went T C
+    → ((i : ℕ) → i < cells s → T′ i ≡ swapped s n C i) → count ≡ cond (eqb n 0) 0 (leaving s C)
+    → MadeRun trip s swaps r k (record { made = m; swaps = n; went = went; swapped = count }) T T′
+made-run trip s swaps r {n = n} side on e f z q c = record {
+  upto = e;
+  swaps-made = f;
+  moved = record {
+    made = λ i h. q i h ∙ swaps-same s (side-known s side .least) n (z .made on) i h;
+    went = z .went on;
+    leaves = c ∙ ap (cond (eqb n 0) 0) (leaving-same s (z .made on));
+  };
+}
 
 -- a run of so many moves, of whatever kind
 module _ (trip : Trip) (s : ℕ) (side : isSide s ≡ true) (swaps times m : ℕ) (within : m ≤ times) (T : ℕ → Cell) where
@@ -117,11 +119,11 @@ module _ (trip : Trip) (s : ℕ) (side : isSide s ≡ true) (swaps times m : ℕ
       let l = legOf trip s swaps w times m in
       let e : movers (isLate trip) times (t .went) j ≡ goneIn (lineRuleOf l) j T =
       sum-cong 8 (λ d u. ap (λ (n : ℕ). cond (goesIn (isLate trip) times j d) n 0) (z .went d u)) ∙ sym (gone-by-went l j T side h within) in
-      omega (arith, e, z .swaps, gone-made l times j T)
+      omega (arith, e, z .leaves, gone-made l times j T)
   counts-are Swap {t} z j h =
       let e : movers (isLate trip) times (t .went) j ≡ 0 =
       sum-zero (λ d. cond (goesIn (isLate trip) times j d) (getD (t .went) d 0) 0) 8 (λ d u. few-zero (goesIn (isLate trip) times j d) (z .went d u ∙ went-nothing (lineRuleOf idle) none d T)) in
-      let f : t .swapped ≡ leaving s T = z .swaps ∙ rw (ne-eqb m 0 (λ u. omega arith)) (leaving-same s (λ i u. idle-ran i)) in
+      let f : t .swapped ≡ leaving s T = z .leaves ∙ rw (ne-eqb m 0 (λ u. omega arith)) (leaving-same s (λ i u. idle-ran i)) in
       omega (arith, e, f, leaving-swaps s side j T)
     where
       few-zero : (b : Bool) {n : ℕ} → n ≡ 0 → cond b n 0 ≡ 0
@@ -181,12 +183,12 @@ pub few-swaps : (x : Move) (n : ℕ) → swapsIn x n ≤ n
 few-swaps Swap n = omega arith
 few-swaps (Electronic w) n = omega arith
 
-pub running-next : {trip : Trip} {s : ℕ} (rs : List Run) {n q done swaps m : ℕ} {T C C′ : ℕ → Cell} {moved now₁ now₂ : List ℕ} (d : Run) → 0 < s → q < length rs
+running-on : {trip : Trip} {s : ℕ} (rs : List Run) {n q done swaps m : ℕ} {T C C′ : ℕ → Cell} {moved now₁ now₂ : List ℕ} (d : Run) → 0 < s → q < length rs
     → m ≡ min (getD rs q d .times) (n - done)
     → RanRun trip s swaps (getD rs q d .step) (getD rs q d .times) m done C C′ now₁ now₂ → Running trip s rs n q done swaps T C moved now₁
     → Running trip s rs n (q + 1) (done + m) (swaps + swapsIn (getD rs q d .step) m) T C′ moved now₂
 unfolding after movedLog
-running-next {trip} {s} rs {n} {q} {done} {swaps} {m} {T} {C} {C′} {moved} {now₁} {now₂} d pos h e y z =
+running-on {trip} {s} rs {n} {q} {done} {swaps} {m} {T} {C} {C′} {moved} {now₁} {now₂} d pos h e y z =
     let r = getD rs q d in
     let rest = drop (suc q) rs in
     let left : n - (done + m) ≡ n - done - m = omega arith in
@@ -207,6 +209,32 @@ running-next {trip} {s} rs {n} {q} {done} {swaps} {m} {T} {C} {C′} {moved} {no
           ∙ sym (ap (λ (l : List Run). sets now₁ done (movedLog trip s l swaps (n - done) C)) (drop-cons rs q d h)) ∙ z .log-left);
     })
 
+-- a run that was made, and logged
+module _ {trip : Trip} {s swaps k : ℕ} {r : Run} {t : Tally} {C C′ : ℕ → Cell} (side : isSide s ≡ true) (y : MadeRun trip s swaps r k t C C′) where
+  made-few : t .made ≤ r .times
+  made-few = omega (arith, y .upto)
+
+  as-many : Made (legIn trip s swaps (r .step) (r .times) (t .made)) (swapsIn (r .step) (t .made)) t C C′
+  as-many = subst (λ (n : ℕ). Made (legIn trip s swaps (r .step) (r .times) (t .made)) n t C C′) (y .swaps-made) (y .moved)
+
+  pub run-few : (t .made ≤ k) × (t .swaps ≤ t .made)
+  run-few = (omega (arith, y .upto), omega (arith, y .swaps-made, few-swaps (r .step) (t .made)))
+
+  pub run-went : FewWent (t .went)
+  run-went = record { few = λ d h. omega (arith, as-many .went d h, went-few (legIn trip s swaps (r .step) (r .times) (t .made)) d C, side-known s side .cells-few) }
+
+  pub run-counts : (j : ℕ) → j < t .made → tallied (isLate trip) (r .times) t j ≤ 65535
+  run-counts j h = counts-few trip s side swaps (r .times) (t .made) made-few C (r .step) as-many j h
+
+  pub run-logged : {from : ℕ} {moved moved′ : List ℕ} → moved′ ≡ sets moved from (entries (tallied (isLate trip) (r .times) t) 0 (t .made))
+      → RanRun trip s swaps (r .step) (r .times) (t .made) from C C′ moved moved′
+  run-logged e = run-made trip s side swaps (r .times) (t .made) made-few C (r .step) as-many e
+
+pub running-next : {trip : Trip} {s : ℕ} (rs : List Run) {n q done swaps : ℕ} {T C C′ : ℕ → Cell} {moved now₁ now₂ : List ℕ} {t : Tally} (d : Run) → isSide s ≡ true → q < length rs
+    → MadeRun trip s swaps (getD rs q d) (n - done) t C C′ → now₂ ≡ sets now₁ done (entries (tallied (isLate trip) (getD rs q d .times) t) 0 (t .made))
+    → Running trip s rs n q done swaps T C moved now₁ → Running trip s rs n (q + 1) (done + t .made) (swaps + t .swaps) T C′ moved now₂
+running-next rs d side h y e z = rw (y .swaps-made) (running-on rs d (side-known _ side .least) h (y .upto) (run-logged side y e) z)
+
 pub running-end : {lanes : Bool} {trip : Trip} {s : ℕ} (rs : List Run) {n q done swaps : ℕ} {T C : ℕ → Cell} {moved moved′ : List ℕ} → lanes ≡ true → length rs ≤ q
     → Running trip s rs n q done swaps T C moved moved′ → Ran lanes trip s rs n T C moved moved′
 unfolding after movedLog
@@ -222,7 +250,3 @@ ran-nothing l = record {
   kept = λ _ i. refl;
   log = rw l;
 }
-
--- a run that was made, by the names that the code has
-pub made-leg : {l l′ : Leg} {n n′ : ℕ} {t : Tally} {T T′ : ℕ → Cell} → l ≡ l′ → n ≡ n′ → Made l n t T T′ → Made l′ n′ t T T′
-made-leg {l} {l′} {n} {n′} {t} {T} {T′} e f z = subst (λ (k : Leg). Made k n′ t T T′) e (subst (λ (k : ℕ). Made l k t T T′) f z)

@@ -15,8 +15,8 @@ use Rattle.laws.proofs.Tables.{entry-at, length-entries}
 use Rattle.laws.proofs.Trading.{Paired}
 use Rattle.array.specs.Cells.{isSide, cells, partner, isBoard}
 use Rattle.array.proofs.Board.{side-known, partner-in}
-use Rattle.light.specs.Counts.{leavesOf}
-use Rattle.light.specs.Lanes.{Slots, slots, each, swappedBy, Table, Swapped}
+use Rattle.light.specs.Counts.{leavesOf, leavingOf}
+use Rattle.light.specs.Lanes.{Slots, slots, onBoard, each, swappedBy, Table, Swapped}
 use Rattle.light.proofs.Leaving.{sum-paired-off}
 use Rattle.light.proofs.Turning.{paired}
 use Rattle.slots.specs.declared.Rec.{Rec}
@@ -100,19 +100,34 @@ module _ (s : ℕ) (side : isSide s ≡ true) where
         (slot-swapped n w₂ m₂ a₂ (z .words2) (z .marks2) (z .aims2) i h)
         ∙ cells-swaps n (partner s i) (partner-in (side-known s side .least) i h)
 
-    module _ {w′ m′ a′ w₂′ m₂′ a₂′ : List ℕ} (n : ℕ) {b : Bool} {r : ℕ} (on : b ≡ true) (q : Swapped s (cond b n 0) (table w m a w₂ m₂ a₂) (table w′ m′ a′ w₂′ m₂′ a₂′) r) where
-      q′ : Swapped s n (table w m a w₂ m₂ a₂) (table w′ m′ a′ w₂′ m₂′ a₂′) r
-      q′ = rw on at q
+    -- both slots' lanes are a board's
+    on : (w m a : List ℕ) → length w ≡ cells s → length m ≡ cells s → length a ≡ cells s → onBoard s (slots w m a) ≡ true
+    on w m a e f g = rw (side, eq-eqb (length w) (cells s) e, eq-eqb (length m) (cells s) f, eq-eqb (length a) (cells s) g)
+
+    front-on : onBoard s (slots w m a) ≡ true
+    front-on = on w m a (z .words) (z .marks) (z .aims)
+
+    spare-on : onBoard s (slots w₂ m₂ a₂) ≡ true
+    spare-on = on w₂ m₂ a₂ (z .words2) (z .marks2) (z .aims2)
+
+    module _ {w′ m′ a′ w₂′ m₂′ a₂′ : List ℕ} (n : ℕ) {r : ℕ} (q : Swapped s n (table w m a w₂ m₂ a₂) (table w′ m′ a′ w₂′ m₂′ a₂′) r) where
+      front-so : slots w′ m′ a′ ≡ each (swappedBy s n) (slots w m a)
+      front-so = q .front ∙ ap (λ (b : Bool). each (swappedBy s (cond b n 0)) (slots w m a)) front-on
+
+      spare-so : slots w₂′ m₂′ a₂′ ≡ each (swappedBy s n) (slots w₂ m₂ a₂)
+      spare-so = q .spare ∙ ap (λ (b : Bool). each (swappedBy s (cond b n 0)) (slots w₂ m₂ a₂)) spare-on
 
       pub cells-swapped : (i : ℕ) → i < cells s → cellAt w′ m′ a′ w₂′ m₂′ a₂′ i ≡ swapped s n (cellAt w m a w₂ m₂ a₂) i
       cells-swapped i h =
-          ap₂ (λ (t u : Slots). cellAt (t .words) (t .marks) (t .aims) (u .words) (u .marks) (u .aims) i) (q′ .front) (q′ .spare)
+          ap₂ (λ (t u : Slots). cellAt (t .words) (t .marks) (t .aims) (u .words) (u .marks) (u .aims) i) front-so spare-so
           ∙ cells-swaps n i h
 
       pub swap-count : r ≡ cond (eqb n 0) 0 (leaving s (cellAt w m a w₂ m₂ a₂))
       swap-count =
-          q′ .count
-          ∙ ap (λ (k : ℕ). cond (eqb n 0) 0 k)
+          q .count
+          ∙ ap₂ (λ (b c : Bool). cond (eqb (cond b n 0) 0) 0 (leavingOf s m) + cond (eqb (cond c n 0) 0) 0 (leavingOf s m₂)) front-on spare-on
+          ∙ both (eqb n 0) (leavingOf s m) (leavingOf s m₂)
+          ∙ ap (cond (eqb n 0) 0)
           (sym (sum-plus (λ i. leavesOf (partner s i) i (getD m i 0)) (λ i. leavesOf (partner s i) i (getD m₂ i 0)) (cells s)) ∙ sum-cong (cells s) (λ i h. both (eqb (partner s i) i) _ _))
         where
           both : (b : Bool) (x y : ℕ) → cond b 0 x + cond b 0 y ≡ cond b 0 (x + y)

@@ -13,7 +13,8 @@ use Rattle.array.specs.declared.moves.Way.the-variants.{Right}
 use Rattle.array.specs.declared.moves.Move.{Move}
 use Rattle.array.specs.declared.moves.Move.the-variants.{Swap, Electronic}
 use Rattle.array.specs.Cells.{cells, partner}
-use Rattle.runs.specs.Runs.{electronicIn}
+use Rattle.runs.specs.declared.Run.{Run}
+use Rattle.runs.specs.Runs.{electronicIn, swapsIn}
 use Rattle.lists.specs.declared.Trip.{Trip}
 use Rattle.slots.specs.declared.Cell.{Cell}
 use Rattle.slots.specs.Cells.{marksIn}
@@ -21,7 +22,7 @@ use Rattle.mesh.specs.declared.Leg.{Leg}
 use Rattle.mesh.specs.Lines.{goesIn}
 use Rattle.mesh.specs.Mesh.{lineRuleOf, ranOn, wentIn}
 use Rattle.mover.specs.declared.Tally.{Tally}
-use Rattle.mover.specs.Runs.{legOf, swapped, ranBy, goneBy}
+use Rattle.mover.specs.Runs.{legOf, swapped, ranBy, goneBy, madeOf}
 
 -- the way of an electronic move; of a swap any
 abbrev pub wayOf : Move → Way
@@ -52,7 +53,13 @@ leaving s T = sum (cells s) (λ i. cond (eqb (partner s i) i) 0 (marksIn (T i)))
 pub record Made (l : Leg) (n : ℕ) (t : Tally) (T T′ : ℕ → Cell) : Type 0 where
   pub made : (i : ℕ) → i < cells (l .side) → T′ i ≡ swapped (l .side) n (ranOn (lineRuleOf l) T) i
   pub went : (d : ℕ) → d < 8 → getD (t .went) d 0 ≡ wentIn (lineRuleOf l) d T
-  pub swaps : t .swapped ≡ cond (eqb n 0) 0 (leaving (l .side) (ranOn (lineRuleOf l) T))
+  pub leaves : t .swapped ≡ cond (eqb n 0) 0 (leaving (l .side) (ranOn (lineRuleOf l) T))
+
+-- those of run r were, of which k are left to make
+pub record MadeRun (trip : Trip) (s swaps : ℕ) (r : Run) (k : ℕ) (t : Tally) (T T′ : ℕ → Cell) : Type 0 where
+  pub upto : t .made ≡ madeOf r k
+  pub swaps-made : t .swaps ≡ swapsIn (r .step) (t .made)
+  pub moved : Made (legIn trip s swaps (r .step) (r .times) (t .made)) (t .swaps) t T T′
 
 -- the first m moves of a run were made, and logged from a place on
 pub record RanRun (trip : Trip) (s swaps : ℕ) (x : Move) (times m from : ℕ) (T T′ : ℕ → Cell) (moved moved′ : List ℕ) : Type 0 where

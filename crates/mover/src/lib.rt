@@ -22,7 +22,7 @@ ghost use Rattle.array.specs.Cells.{isSide, cells};
 ghost use Rattle.slots.specs.Lanes.{FromTo, Long};
 ghost use Rattle.mesh.specs.Lines.{goesIn};
 ghost use Rattle.mover.specs.Runs.{lowAfter, isLate, RanList};
-ghost use Rattle.mover.specs.Inside.{wayOf, legIn, movers as moversOf, tallied, FewWent, Made};
+ghost use Rattle.mover.specs.Inside.{wayOf, legIn, movers as moversOf, tallied, FewWent, MadeRun};
 
 // Whether a record heads for its aim mod N after so many swaps.
 fn low_after(trip: Trip, swaps: usize) -> bool
@@ -109,31 +109,39 @@ fn log_count(log: &mut [u16], k: usize, count: usize)
     }
 }
 
-// What is known of a run that was made: how many records went that had 0 to 7 cells to go, and how many each swap took to another cell.
+// What is known of the first moves of a run once they are made: how many they are, and how many of them swaps; how many records went that had
+// 0 to 7 cells to go, and how many each swap took to another cell.
 struct Tally {
+    made: usize,
+    swaps: usize,
     went: [usize; 8],
     swapped: usize,
 }
 
-// Writes the counts of the moves of a run that are made, from a place of the log on.
-fn log_run(late: bool, times: usize, made: usize, from: usize, tally: Tally, moved: &mut [u16])
-    requires { ⌜ FewWent (tally .went) × (from + made < 18446744073709551616) ⌝ }
-    requires { ⌜ ((j : ℕ) → j < made → tallied late times tally j ≤ 65535) ⌝ }
-    ensures { λ _. ⌜ new moved ≡ sets (old moved) from (entries (tallied late times tally) 0 made) ⌝ }
+// Writes the counts of the moves that were made of a run of so many, from a place of the log on.
+fn log_run(trip: Trip, times: usize, from: usize, tally: Tally, moved: &mut [u16])
+    requires { ⌜ FewWent (tally .went) × (from + tally .made < 18446744073709551616) ⌝ }
+    requires { ⌜ ((j : ℕ) → j < tally .made → tallied (isLate trip) times tally j ≤ 65535) ⌝ }
+    ensures { λ _. ⌜ new moved ≡ sets (old moved) from (entries (tallied (isLate trip) times tally) 0 (tally .made)) ⌝ }
 {
+    let late = is_late(trip);
     let went = tally.went;
     let mut j: usize = 0;
-    while j < made {
+    while j < tally.made {
         let count = movers(late, times, went, j) + tally.swapped;
         log_count(moved, from + j, count);
         j += 1;
     }
 }
 
-// The moves of a run: its electronic moves, and so many swaps. One of the two there are none of.
+// The first moves of a run, where so many swaps were made before: as many as are left to make. They are its electronic moves, and its swaps;
+// one of the two there are none of.
 fn make_run(
-    leg: Leg,
+    trip: Trip,
+    side: usize,
     swaps: usize,
+    run: Run,
+    left: usize,
     words: &mut [u32],
     marks: &mut [u8],
     aims: &mut [u16],
@@ -141,13 +149,15 @@ fn make_run(
     spare_marks: &mut [u8],
     spare_aims: &mut [u16],
 ) -> Tally
-    requires { ⌜ isSide (leg .side) ≡ true ⌝ }
-    requires { ⌜ Long (cells (leg .side)) words marks aims «spare_words» «spare_marks» «spare_aims» ⌝ }
-    ensures { λ r. ⌜ FromTo (Made leg swaps r) words marks aims «spare_words» «spare_marks» «spare_aims» ⌝ }
+    requires { ⌜ isSide side ≡ true ⌝ }
+    requires { ⌜ Long (cells side) words marks aims «spare_words» «spare_marks» «spare_aims» ⌝ }
+    ensures { λ r. ⌜ FromTo (MadeRun trip side swaps run left r) words marks aims «spare_words» «spare_marks» «spare_aims» ⌝ }
 {
-    let side = leg.side;
+    let made = least(run.times, left);
+    let step = run.step;
+    let n = swaps_in(step, made);
     let went = run_all(
-        leg,
+        leg_of(trip, side, swaps, run, made),
         words,
         marks,
         aims,
@@ -157,7 +167,7 @@ fn make_run(
     );
     let swapped = swap_lanes(
         side,
-        swaps,
+        n,
         words,
         marks,
         aims,
@@ -165,7 +175,12 @@ fn make_run(
         spare_marks,
         spare_aims,
     );
-    Tally { went, swapped }
+    Tally {
+        made,
+        swaps: n,
+        went,
+        swapped,
+    }
 }
 
 // Makes the first moves of a list, up to the cut, and logs how many records each took to another cell. Lanes that are not a board's stay as
@@ -196,19 +211,17 @@ pub fn run(
     ) {
         return;
     }
-    let late = is_late(trip);
     let mut swaps: usize = 0;
     let mut done: usize = 0;
     let mut q: usize = 0;
     while q < 9 {
         let run = runs[q];
-        let step = run.step;
-        let made = least(run.times, cut - done);
-        let n = swaps_in(step, made);
-        let leg = leg_of(trip, side, swaps, run, made);
         let tally = make_run(
-            leg,
-            n,
+            trip,
+            side,
+            swaps,
+            run,
+            cut - done,
             words,
             marks,
             aims,
@@ -216,9 +229,9 @@ pub fn run(
             spare_marks,
             spare_aims,
         );
-        log_run(late, run.times, made, done, tally, moved);
-        swaps += n;
-        done += made;
+        log_run(trip, run.times, done, tally, moved);
+        swaps += tally.swaps;
+        done += tally.made;
         q += 1;
     }
 }

@@ -1,12 +1,11 @@
-use mathlib.Core.Path.{_≡_}
-use Prim.Native.Nat.{ℕ}
-use native.Mathlib.Omega.{arith}
+use mathlib.Core.Path.{refl}
 use borrow.Author.Tests.{eqb-true}
+use Rattle.laws.proofs.Bools.{never}
 use Rattle.light.proofs.by_links.Statement.{statement}
 use Rattle.light.proofs.by_links.Tie as tie
 
 returns : tie.Need-returns
-returns c = λ e. absurd (let z : _≡_ {A = ℕ} 0 1 = cc in omega arith)
+returns c = λ e. absurd (never e refl)
 
 returns-2 : tie.Need-returns-2
 returns-2 c = λ e. eqb-true _ _ e

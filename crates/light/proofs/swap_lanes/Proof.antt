@@ -1,15 +1,9 @@
-use borrow.Author.Needs.{needs}
+use mathlib.Core.Path.{refl}
 use Rattle.light.proofs.Partners.{listed-links, listed-none}
-use Rattle.light.proofs.Walking.{some-counted, swapped-counted}
+use Rattle.light.proofs.Walking.{both-swapped}
+use borrow.Author.Needs.{needs}
 use Rattle.light.proofs.swap_lanes.Statement.{statement}
 use Rattle.light.proofs.swap_lanes.Tie as tie
-use Rattle.links.proofs.links.Reads as links-reads
-
-are-lanes-requires : tie.Need-are-lanes-requires
-are-lanes-requires c κs = tt
-
-counted-requires : tie.Need-counted-requires
-counted-requires c κs = tt
 
 by-links-requires : tie.Need-by-links-requires
 by-links-requires c κs = tt
@@ -17,98 +11,124 @@ by-links-requires c κs = tt
 links-requires : tie.Need-links-requires
 links-requires c κs = tt
 
-slice-aggregate-trade-lanes : tie.Need-slice-aggregate-trade-lanes
-slice-aggregate-trade-lanes c = search needs
+slice-aggregate-trade-times : tie.Need-slice-aggregate-trade-times
+slice-aggregate-trade-times c = search needs
 
-trade-lanes-requires : tie.Need-trade-lanes-requires
-trade-lanes-requires c κs =
-    let l = c .before .before .before .before .before .before .before in
+trade-times-requires : tie.Need-trade-times-requires
+trade-times-requires c κs =
+    let i = c .before .before .before .before .before in
+    let bl = i .before in
+    listed-links _ _ (bl .by-links .ensures (i .if1 .taken)) (c .before .before .before .before .links .ensures)
+
+slice-aggregate-trade-times-2 : tie.Need-slice-aggregate-trade-times-2
+slice-aggregate-trade-times-2 c = search needs
+
+trade-times-requires-2 : tie.Need-trade-times-requires-2
+trade-times-requires-2 c κs =
+    let l = c .before .before .before .before .before .before .before .before .before .before .before .before .before .before .before in
     let i = l .before in
-    let b = i .before in
-    let c₂ = b .before in
-    let a = c₂ .before in
-    let s = a .before .before .before .before .before .before .before in
-    (λ h. some-counted (a .are-lanes .result) (s .args .times) (c₂ .counted .ensures) (a .are-lanes .ensures) h, listed-links _ _ (b .by-links .ensures (i .if1 .taken)) (l .links .ensures))
+    let bl = i .before in
+    listed-links _ _ (bl .by-links .ensures (i .if1 .taken)) (l .links .ensures)
+
+add-result : tie.Need-add-result
+add-result c = search needs
 
 same-length : tie.Need-same-length
-same-length c = c .before .before .before .before .before .before .before .before .before .before .before .before .trade-lanes .kept .1 .1 .1 .0
+same-length c =
+    let tt = c .before .before .before .before .before .before .before .before .before .before .before .before .before .before .before .before .before in
+    tt .trade-times .kept .1 .1 .1 .0
 
 same-length-2 : tie.Need-same-length-2
-same-length-2 c = c .before .before .before .before .before .before .before .before .before .before .before .before .trade-lanes .kept .1 .1 .1 .1 .0
+same-length-2 c =
+    let tt = c .before .before .before .before .before .before .before .before .before .before .before .before .before .before .before .before .before in
+    tt .trade-times .kept .1 .1 .1 .1 .0
 
 same-length-3 : tie.Need-same-length-3
-same-length-3 c = c .before .before .before .before .before .before .before .before .before .before .before .before .trade-lanes .kept .1 .1 .1 .1 .1 .0
+same-length-3 c =
+    let tt = c .before .before .before .before .before .before .before .before .before .before .before .before .before .before .before .before .before in
+    tt .trade-times .kept .1 .1 .1 .1 .1 .0
 
 same-length-4 : tie.Need-same-length-4
-same-length-4 c = c .before .before .before .before .before .before .before .before .before .before .before .before .trade-lanes .kept .1 .1 .1 .1 .1 .1 .0
+same-length-4 c = c .before .before .before .before .before .before .trade-times2 .kept .1 .1 .1 .0
 
 same-length-5 : tie.Need-same-length-5
-same-length-5 c = c .before .before .before .before .before .before .before .before .before .before .before .before .trade-lanes .kept .1 .1 .1 .1 .1 .1 .1 .0
+same-length-5 c = c .before .before .before .before .before .before .trade-times2 .kept .1 .1 .1 .1 .0
 
 same-length-6 : tie.Need-same-length-6
-same-length-6 c =
-    let t = c .before .before .before .before .before .before .before .before .before .before .before .before in
-    t .trade-lanes .kept .1 .1 .1 .1 .1 .1 .1 .1 .0
+same-length-6 c = c .before .before .before .before .before .before .trade-times2 .kept .1 .1 .1 .1 .1 .0
 
 returns : tie.Need-returns
 returns c =
-    let t = c .before .before .before .before .before .before .before .before .before .before .before .before in
-    let c₂ = t .before .before .before .before .before .before .before .before .before .before .before in
-    let a = c₂ .before in
-    let s = a .before .before .before .before .before .before .before in
-    swapped-counted (a .are-lanes .result) _ (s .args .times) (c₂ .counted .ensures) (a .are-lanes .ensures) (t .trade-lanes .ensures)
+    let tt = c .before .before .before .before .before .before in
+    let tt₂ = tt .before .before .before .before .before .before .before .before .before .before .before in
+    both-swapped (tt₂ .trade-times .ensures) (tt .trade-times2 .ensures) refl
 
 array-share-prefix-none : tie.Need-array-share-prefix-none
 array-share-prefix-none c = search needs
 
-slice-aggregate-trade-lanes-2 : tie.Need-slice-aggregate-trade-lanes-2
-slice-aggregate-trade-lanes-2 c = search needs
+slice-aggregate-trade-times-3 : tie.Need-slice-aggregate-trade-times-3
+slice-aggregate-trade-times-3 c = search needs
 
-trade-lanes-requires-2 : tie.Need-trade-lanes-requires-2
-trade-lanes-requires-2 c κs =
-    let c₂ = c .before .before .before .before .before .before .before .before .before in
-    let a = c₂ .before in
-    let s = a .before .before .before .before .before .before .before in
-    (λ h. some-counted (a .are-lanes .result) (s .args .times) (c₂ .counted .ensures) (a .are-lanes .ensures) h, listed-none (s .args .side))
+trade-times-requires-3 : tie.Need-trade-times-requires-3
+trade-times-requires-3 c κs =
+    let s = c .before .before .before .before .before .before .before .before .before .before .before .before in
+    listed-none (s .args .side)
+
+array-share-prefix-none-2 : tie.Need-array-share-prefix-none-2
+array-share-prefix-none-2 c = search needs
+
+slice-aggregate-trade-times-4 : tie.Need-slice-aggregate-trade-times-4
+slice-aggregate-trade-times-4 c = search needs
+
+trade-times-requires-4 : tie.Need-trade-times-requires-4
+trade-times-requires-4 c κs =
+    let s = c .before .before .before .before .before .before .before .before .before .before .before .before .before .before .before .before .before .before .before .before .before .before .before in
+    listed-none (s .args .side)
+
+add-result-2 : tie.Need-add-result-2
+add-result-2 c = search needs
 
 same-length-7 : tie.Need-same-length-7
-same-length-7 c = c .before .before .before .before .before .before .before .before .before .before .before .before .trade-lanes2 .kept .1 .1 .1 .0
+same-length-7 c =
+    let tt = c .before .before .before .before .before .before .before .before .before .before .before .before .before .before .before .before .before in
+    tt .trade-times3 .kept .1 .1 .1 .0
 
 same-length-8 : tie.Need-same-length-8
-same-length-8 c = c .before .before .before .before .before .before .before .before .before .before .before .before .trade-lanes2 .kept .1 .1 .1 .1 .0
+same-length-8 c =
+    let tt = c .before .before .before .before .before .before .before .before .before .before .before .before .before .before .before .before .before in
+    tt .trade-times3 .kept .1 .1 .1 .1 .0
 
 same-length-9 : tie.Need-same-length-9
-same-length-9 c = c .before .before .before .before .before .before .before .before .before .before .before .before .trade-lanes2 .kept .1 .1 .1 .1 .1 .0
+same-length-9 c =
+    let tt = c .before .before .before .before .before .before .before .before .before .before .before .before .before .before .before .before .before in
+    tt .trade-times3 .kept .1 .1 .1 .1 .1 .0
 
 same-length-10 : tie.Need-same-length-10
-same-length-10 c = c .before .before .before .before .before .before .before .before .before .before .before .before .trade-lanes2 .kept .1 .1 .1 .1 .1 .1 .0
+same-length-10 c = c .before .before .before .before .before .before .trade-times4 .kept .1 .1 .1 .0
 
 same-length-11 : tie.Need-same-length-11
-same-length-11 c = c .before .before .before .before .before .before .before .before .before .before .before .before .trade-lanes2 .kept .1 .1 .1 .1 .1 .1 .1 .0
+same-length-11 c = c .before .before .before .before .before .before .trade-times4 .kept .1 .1 .1 .1 .0
 
 same-length-12 : tie.Need-same-length-12
-same-length-12 c =
-    let t = c .before .before .before .before .before .before .before .before .before .before .before .before in
-    t .trade-lanes2 .kept .1 .1 .1 .1 .1 .1 .1 .1 .0
+same-length-12 c = c .before .before .before .before .before .before .trade-times4 .kept .1 .1 .1 .1 .1 .0
 
 returns-2 : tie.Need-returns-2
 returns-2 c =
-    let t = c .before .before .before .before .before .before .before .before .before .before .before .before in
-    let c₂ = t .before .before .before .before .before .before .before .before .before .before in
-    let a = c₂ .before in
-    let s = a .before .before .before .before .before .before .before in
-    swapped-counted (a .are-lanes .result) _ (s .args .times) (c₂ .counted .ensures) (a .are-lanes .ensures) (t .trade-lanes2 .ensures)
+    let tt = c .before .before .before .before .before .before in
+    let tt₂ = tt .before .before .before .before .before .before .before .before .before .before .before in
+    both-swapped (tt₂ .trade-times3 .ensures) (tt .trade-times4 .ensures) refl
 
 pub swap-lanes-spec : {M : Type 1} → statement M
 swap-lanes-spec =
     tie.close
     (tie.spec
-    are-lanes-requires
-    counted-requires
     by-links-requires
     links-requires
-    slice-aggregate-trade-lanes
-    trade-lanes-requires
+    slice-aggregate-trade-times
+    trade-times-requires
+    slice-aggregate-trade-times-2
+    trade-times-requires-2
+    add-result
     same-length
     same-length-2
     same-length-3
@@ -117,8 +137,12 @@ swap-lanes-spec =
     same-length-6
     returns
     array-share-prefix-none
-    slice-aggregate-trade-lanes-2
-    trade-lanes-requires-2
+    slice-aggregate-trade-times-3
+    trade-times-requires-3
+    array-share-prefix-none-2
+    slice-aggregate-trade-times-4
+    trade-times-requires-4
+    add-result-2
     same-length-7
     same-length-8
     same-length-9
