@@ -4,6 +4,7 @@ pub mod Edges
 pub mod Held
 pub mod Laying
 pub mod Lines
+pub mod Registers
 pub mod Spots
 pub mod Stepping
 pub mod Sweeping
