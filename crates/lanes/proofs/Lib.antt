@@ -5,6 +5,7 @@ pub mod Held
 pub mod Laying
 pub mod Lines
 pub mod Registers
+pub mod SingleMoves
 pub mod Spots
 pub mod Stepping
 pub mod Sweeping

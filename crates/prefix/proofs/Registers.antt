@@ -7,7 +7,7 @@ use Rattle.array.specs.declared.moves.Way.the-variants.{Right, Left, Up, Down}
 use Rattle.sums.specs.Sums.{plus}
 use Rattle.lanes.specs.Machine.{at, load}
 use Rattle.lanes.specs.Registers.{IsWord, Registers}
-use Rattle.lanes.proofs.Registers.{KeepAll, Joins, from-keeping, light-keeping, plus-word, minus-word, registers-kept}
+use Rattle.lanes.proofs.Registers.{KeepAll, no-more, _and_, Joins, from-keeping, light-keeping, plus-word, minus-word, registers-kept}
 use Rattle.prefix.specs.Programs.{Sums, FiveWords, loadSums, addRow, addColumn, takeGroup, addGroups, addGroupRows, rowsAbove, takeAbove, groupsBefore, takeBefore, rowBefore, takeRow, prefixSum}
 
 -- what each step hands on and joins, in the order of the steps
@@ -52,9 +52,11 @@ row-taken = record {
 
 pub prefixSum-keeping : (s : ℕ) → KeepAll FiveWords IsWord (prefixSum s)
 prefixSum-keeping s =
-    (from-keeping rows-added Right 0 (s - 1), (from-keeping columns-added Down 0 (s - 1), (light-keeping group-taken 1,
-    (from-keeping groups-added Right 0 (s - 1), (from-keeping group-rows-added Down 0 (s - 1), (from-keeping above-taken Left (s - 1) (s - 1),
-    (light-keeping before-sent 1, (from-keeping before-taken Up (s - 1) (s - 1), (from-keeping row-taken Left (s - 1) (s - 1), tt)))))))))
+    from-keeping rows-added Right 0 (s - 1) and from-keeping columns-added Down 0 (s - 1)
+    and light-keeping group-taken 1
+    and from-keeping groups-added Right 0 (s - 1) and from-keeping group-rows-added Down 0 (s - 1) and from-keeping above-taken Left (s - 1) (s - 1)
+    and light-keeping before-sent 1
+    and from-keeping before-taken Up (s - 1) (s - 1) and from-keeping row-taken Left (s - 1) (s - 1) and no-more
 
 pub words-loaded : (w : ℕ) → IsWord w → FiveWords (loadSums w)
 words-loaded w h = let none : IsWord 0 = omega arith in record { r = h; c = h; a = none; y = none; z = none }

@@ -17,7 +17,7 @@ pub record Sums : Type 0 where
   pub y : ℕ
   pub z : ℕ
 
--- they are words
+-- all five are words
 pub record FiveWords (o : Sums) : Type 0 where
   pub r : IsWord (o .r)
   pub c : IsWord (o .c)

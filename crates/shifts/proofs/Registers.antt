@@ -12,7 +12,7 @@ use Rattle.shiftlists.specs.Shifts.{forthMoves, forthWay, swapsOf}
 use Rattle.lanes.specs.Machine.{at, load}
 use Rattle.lanes.specs.Stages.{position, filled}
 use Rattle.lanes.specs.Registers.{IsWord, IfAny, Registers}
-use Rattle.lanes.proofs.Registers.{KeepAll, Joins, light-keeping, registers-kept}
+use Rattle.lanes.proofs.Registers.{KeepAll, no-more, _and_, Joins, light-keeping, registers-kept}
 use Rattle.shifts.specs.Programs.{Shifting, TwoWords, loadShift, takesBack, swapShift, shift}
 
 -- 0 is a word, where nothing came
@@ -29,16 +29,16 @@ swap-taken = record { sends = λ o g. g .x; joins = λ o x g h. record { x = h; 
 
 shift-keeping : (s : ℕ) (axis : Axis) (edge : Edge) (k : Distance) → KeepAll TwoWords IsWord (shift s axis edge k)
 shift-keeping s axis edge k =
-    (light-keeping swap-taken (swapsOf axis),
-    (record { sends = λ o g. g .x; takes = λ n c d a b o got g h. record { x = filled-word got h; y = g .y } },
-    (record {
+    light-keeping swap-taken (swapsOf axis)
+    and record { sends = λ o g. g .x; turns = λ n c d a b o got g h. record { x = filled-word got h; y = g .y } }
+    and record {
       sends = λ o g. g .y;
-      takes = λ n c d a b o got g h. record {
+      turns = λ n c d a b o got g h. record {
         x = either-word (takesBack edge (forthMoves edge s k) (position (forthWay axis) a b)) (filled-word got h) (g .x);
         y = filled-word got h;
       };
-    },
-    (light-keeping swap-taken (swapsOf axis), tt))))
+    }
+    and light-keeping swap-taken (swapsOf axis) and no-more
 
 pub shift-registers : (s : ℕ) (axis : Axis) (edge : Edge) (k : Distance) (l : List ℕ) → ((j : ℕ) → IsWord (getD l j 0))
     → Registers TwoWords IsWord s (shift s axis edge k) (λ c d a b. loadShift (load s l c d a b))

@@ -20,7 +20,7 @@ pub record Shifting : Type 0 where
   pub x : ℕ
   pub y : ℕ
 
--- they are words
+-- both are words
 pub record TwoWords (o : Shifting) : Type 0 where
   pub x : IsWord (o .x)
   pub y : IsWord (o .y)
