@@ -1,7 +1,7 @@
 -- The machine of the word operations. A state gives the registers of each cell, by the row and the column of its group and its own row and
 -- column. In a move every cell hands on one word, which it works out of its registers, and its registers become what a rule makes of its
--- place, the move's number, its own registers and the one word that it receives, if any. R is what a cell's registers hold and A what a cell
--- hands on; of the operations on words A is ℕ, and Registers.antt says that it is below 2 ^ 32.
+-- place, the move's number, its own registers and the one word that it receives, if any. R stands for a cell's registers, A for what it hands on:
+-- a number, in the operations on words. Registers.antt says what it is that these are words after every single move.
 use Prim.Native.Nat.{ℕ, zero, suc, _+_, _*_}
 use mathlib.Core.Bool.{cond}
 use mathlib.Core.Option.{Option, none, some}

@@ -6,7 +6,7 @@ use mathlib.Core.List.{List, [], _∷_}
 use lib.Dec.{ltb}
 use Rattle.lanes.specs.Machine.{State, Stage, ran, all}
 
--- a number that fits a word
+-- a number that is a word
 abbrev pub IsWord : ℕ → Type 0
 IsWord x = x < 2 ^ 32
 
@@ -21,12 +21,12 @@ handedOn s [] k σ c d a b = none
 handedOn s (t ∷ ts) k σ c d a b =
     cond (ltb k (t .run .times)) (some (t .send (ran s t k σ c d a b))) (handedOn s ts (k - t .run .times) (all s t σ) c d a b)
 
--- of what there may be: if it is there, it is one of P
+-- P holds of it, where there is one
 abbrev pub IfAny : {A : Type 0} → (A → Type 0) → Option A → Type 0
 IfAny P none = Unit {0}
 IfAny P (some x) = P x
 
--- after every single move of a program, made on σ, every cell's registers are as Good says, and what it hands on in a move is as Fit says
+-- a program made on σ: after every single move Good holds of every cell's registers, and in every move Fit of what it hands on
 pub record Registers {R A : Type 0} (Good : R → Type 0) (Fit : A → Type 0) (s : ℕ) (ts : List (Stage R A)) (σ : State R) : Type 0 where
   pub after : (k c d a b : ℕ) → Good (afterMoves s ts k σ c d a b)
   pub handed : (k c d a b : ℕ) → IfAny Fit (handedOn s ts k σ c d a b)

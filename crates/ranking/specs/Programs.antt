@@ -15,6 +15,7 @@ pub record WordsAndMark (o : Ranking) : Type 0 where
   pub sums : FiveWords (o .sums)
   pub mark : o .mark < 2
 
+-- before the first move: the sums start from the mark
 abbrev pub loadMark : ℕ → Ranking
 loadMark m = record { sums = loadSums m; mark = m }
 
@@ -27,6 +28,7 @@ withMark t =
       rule = λ k c d a b o got. record { sums = t .rule k c d a b (o .sums) got; mark = o .mark };
     }
 
+-- Rank, in the steps of the prefix sum.
 abbrev pub rank : ℕ → List (Stage Ranking ℕ)
 rank s = map withMark (prefixSum s)
 
