@@ -34,7 +34,7 @@ received-same s (Electronic Down) σ τ z c d a b hc hd ha hb = before-same s (�
 received-same s (Electronic Up) σ τ z c d a b hc hd ha hb = after-same s (λ i. σ c d i b) (λ i. τ c d i b) (λ p u. z .are c d p b hc hd u hb) a
 
 -- k moves of a stage, and all of them
-ran-same : (s : ℕ) (t : Stage ℕ) (k : ℕ) {σ τ : State ℕ} → Agree s σ τ → Agree s (ran s t k σ) (ran s t k τ)
+ran-same : (s : ℕ) (t : Stage ℕ ℕ) (k : ℕ) {σ τ : State ℕ} → Agree s σ τ → Agree s (ran s t k σ) (ran s t k τ)
 ran-same s t zero z = z
 ran-same s t (suc k) {σ} {τ} z = record {
   are = λ c d a b hc hd ha hb.
@@ -42,5 +42,5 @@ ran-same s t (suc k) {σ} {τ} z = record {
       (received-same s (t .run .step) _ _ (record { are = λ c d a b hc hd ha hb. ap (t .send) (ran-same s t k z .are c d a b hc hd ha hb) }) c d a b hc hd ha hb);
 }
 
-pub all-same : (s : ℕ) (t : Stage ℕ) {σ τ : State ℕ} → Agree s σ τ → Agree s (all s t σ) (all s t τ)
+pub all-same : (s : ℕ) (t : Stage ℕ ℕ) {σ τ : State ℕ} → Agree s σ τ → Agree s (all s t σ) (all s t τ)
 all-same s t z = ran-same s t (t .run .times) z

@@ -78,7 +78,7 @@ value-at : (s : ℕ) (σ : State ℕ) (c d a b : ℕ) → d < s → a < s → b 
 value-at s σ c d a b hd ha hb =
     rw (group-of s (c * s + d) (a * s + b) (place< ha hb), place-of s (c * s + d) (a * s + b) (place< ha hb), digits-div c hd, digits-mod c hd, digits-div a hb, digits-mod a hb)
 
-unload-holds : (s : ℕ) (σ : State ℕ) → HoldsWords s (unload s σ) σ
+pub unload-holds : (s : ℕ) (σ : State ℕ) → HoldsWords s (unload s σ) σ
 unload-holds s σ = record {
   is = λ c d a b hc hd ha hb. entry-at (valueAt s σ) (cells s) (at s c d a b) 0 (at< s c d a b hc hd ha hb) ∙ value-at s σ c d a b hd ha hb;
 }

@@ -4,6 +4,8 @@ pub mod Edges
 pub mod Held
 pub mod Laying
 pub mod Lines
+pub mod Registers
+pub mod SingleMoves
 pub mod Spots
 pub mod Stepping
 pub mod Sweeping

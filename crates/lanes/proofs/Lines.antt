@@ -21,11 +21,11 @@ line get ρ zero f = f
 line get ρ (suc k) f = λ p. ρ k p (line get ρ k f p) (get (line get ρ k f) p)
 
 -- a stage of one register, which is handed on as it is
-abbrev pub plain : Way → ℕ → (ℕ → Rule ℕ) → Stage ℕ
+abbrev pub plain : Way → ℕ → (ℕ → Rule ℕ ℕ) → Stage ℕ ℕ
 plain w n ρ = record { run = along w n; send = word; rule = ρ }
 
 -- a stage of the array is a run along each of its lines
-module _ (s n : ℕ) (ρ : ℕ → Rule ℕ) (σ : State ℕ) (c d : ℕ) where
+module _ (s n : ℕ) (ρ : ℕ → Rule ℕ ℕ) (σ : State ℕ) (c d : ℕ) where
   pub right : (k a : ℕ) → ran s (plain Right n ρ) k σ c d a ≡ line fromBefore (λ k. ρ k c d a) k (σ c d a)
   right zero a = refl
   right (suc k) a = ap {B = ℕ → ℕ} (λ (g : ℕ → ℕ) b. ρ k c d a b (g b) (fromBefore g b)) (right k a)

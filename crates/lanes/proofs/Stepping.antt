@@ -18,7 +18,7 @@ use Rattle.array.specs.declared.moves.Way.the-variants.{Right, Left, Up, Down}
 use Rattle.array.specs.declared.moves.Move.the-variants.{Electronic}
 use Rattle.array.specs.Cells.{groups, row, column}
 use Rattle.lanes.specs.declared.Joining.{Joining}
-use Rattle.lanes.specs.declared.steps.Rule.{Rule}
+use Rattle.lanes.specs.declared.steps.JoinRule.{JoinRule}
 use Rattle.lanes.specs.declared.steps.Source.the-variants.{At, Nothing}
 use Rattle.lanes.specs.Machine.{State, Stage, receive, fromBefore, fromAfter, ran, at}
 use Rattle.lanes.specs.Stages.{position, stepsOn}
@@ -63,7 +63,7 @@ module _ (s : ℕ) (l : List ℕ) (σ : ℕ → ℕ → ℕ) (holds : (a b : ℕ
   placed w = rw (row-is, column-is)
 
   -- a place of a group after a move
-  next-is : (w : Way) (r : Rule) → nextOf s w r l (a * s + b)
+  next-is : (w : Way) (r : JoinRule) → nextOf s w r l (a * s + b)
       ≡ ruleOf (r .joining) (r .front) (position w a b) (σ a b) (receive s (Electronic w) (λ c d a b. σ a b) 0 0 a b)
   next-is w r =
       ap (λ z. ruleOf (r .joining) (r .front) z (getD l (a * s + b) 0) (wordAt l (sourceOf s w (a * s + b)))) (placed w)
@@ -77,7 +77,7 @@ received s Up σ c d a b = refl
 received s Down σ c d a b = refl
 
 -- a move of all groups
-pub step-moved : (s : ℕ) (w : Way) (r : Rule) (l l′ : List ℕ) (g : ℕ) → groups s ≤ g → Changed (stepped s w r) (groups s) l g l′ → Moved s (steppedAll s w r) l l′
+pub step-moved : (s : ℕ) (w : Way) (r : JoinRule) (l l′ : List ℕ) (g : ℕ) → groups s ≤ g → Changed (stepped s w r) (groups s) l g l′ → Moved s (steppedAll s w r) l l′
 step-moved s w r l l′ g all-in z = record {
   so = λ σ h. record {
     is = λ c d a b hc hd ha hb.
@@ -92,7 +92,7 @@ step-moved s w r l l′ g all-in z = record {
 }
 
 -- k moves of a run
-pub run-start : (s : ℕ) (t : Stage ℕ) (l : List ℕ) → Moved s (ran s t 0) l l
+pub run-start : (s : ℕ) (t : Stage ℕ ℕ) (l : List ℕ) → Moved s (ran s t 0) l l
 run-start s t l = record { so = λ σ h. h }
 
 pub run-next : (s : ℕ) (w : Way) (j : Joining) (e n k q : ℕ) {l l′ l″ : List ℕ} → q ≡ stepsOn w e (k + 1) → Moved s (ran s (running w j e n) k) l l′

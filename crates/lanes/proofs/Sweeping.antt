@@ -17,7 +17,7 @@ use Rattle.array.specs.Cells.{groups, row, column}
 use Rattle.lanes.specs.declared.Joining.{Joining}
 use Rattle.lanes.specs.declared.Joining.the-variants.{Add, Copy, Fill}
 use Rattle.lanes.specs.declared.steps.Line.{Line}
-use Rattle.lanes.specs.declared.steps.Rule.{Rule}
+use Rattle.lanes.specs.declared.steps.JoinRule.{JoinRule}
 use Rattle.lanes.specs.declared.steps.Source.{Source}
 use Rattle.lanes.specs.declared.steps.Source.the-variants.{At, Nothing}
 use Rattle.sums.specs.Sums.{plus}
@@ -126,7 +126,7 @@ turned-line s w p l l′ op j x r g y z = go (ltb p s) refl (rw y at z)
     go false e z = laid-nothing (rw e at z) ∙ turned-off s w j p l g (ltb-false p s e)
 
 -- with a front the others keep what they have
-pub front-stepped : (s : ℕ) (w : Way) (r : Rule) (l l′ : List ℕ) (op : ℕ → ℕ → ℕ) (j : Joining) → ruleOf j ≡ front op → r .joining ≡ j
+pub front-stepped : (s : ℕ) (w : Way) (r : JoinRule) (l l′ : List ℕ) (op : ℕ → ℕ → ℕ) (j : Joining) → ruleOf j ≡ front op → r .joining ≡ j
     → l′ ≡ turned s w j (r .front) l → l′ ≡ stepped s w r l
 front-stepped s w r l l′ op j e f z = z ∙ entries-cong (groups s) (λ i u. go i (eqb (pos s w i) (r .front)) refl)
   where
@@ -203,5 +203,5 @@ module _ {s : ℕ} {w : Way} {old : List ℕ} where
       entries-all (nextOf s w filling old) (groups s) 0 l (z .group .whole) (λ i u. z .done i u (omega (arith, order-in w s (pos s w i) (position-in i w (z .group .least) u))))
 
 -- the rule of filling has no front
-pub filled-stepped : (s : ℕ) (w : Way) (r : Rule) (l l′ : List ℕ) → r .joining ≡ Fill → l′ ≡ stepped s w filling l → l′ ≡ stepped s w r l
+pub filled-stepped : (s : ℕ) (w : Way) (r : JoinRule) (l l′ : List ℕ) → r .joining ≡ Fill → l′ ≡ stepped s w filling l → l′ ≡ stepped s w r l
 filled-stepped s w r l l′ e z = z ∙ entries-cong (groups s) (λ i u. rw e)

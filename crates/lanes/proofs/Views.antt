@@ -33,7 +33,7 @@ module _ {R : Type 0} (φ : R → ℕ) where
   got-receive s (Electronic Down) σ c d a b = got-before (λ i. σ c d i b) a
 
 -- the word that is handed on runs as if it were alone, where what a cell hands on next needs only what it handed on and what it received
-module _ {R : Type 0} (φ : R → ℕ) (m : Run) (ρ : ℕ → Rule R) (ρ′ : ℕ → Rule ℕ)
+module _ {R : Type 0} (φ : R → ℕ) (m : Run) (ρ : ℕ → Rule R ℕ) (ρ′ : ℕ → Rule ℕ ℕ)
     (alone : (k c d a b : ℕ) (o : R) (x : Option R) → φ (ρ k c d a b o (Option·map φ x)) ≡ ρ′ k c d a b (φ o) (Option·map φ x)) where
   pub ran-view : (s k : ℕ) (σ : State R)
       → lane φ (ran s (record { run = m; send = φ; rule = ρ }) k σ) ≡ ran s (record { run = m; send = word; rule = ρ′ }) k (lane φ σ)
@@ -65,14 +65,14 @@ module _ {R : Type 0} (φ : R → ℕ) (op : R → ℕ → R) (op′ : ℕ → �
       ran-view φ _ _ _ (λ k c d a b. front-view (stepsOn w e (suc k)) (position w a b)) s n σ ∙ ap (all s (from w word op′ e n)) h
 
 -- what every turn of a cell keeps, a run keeps
-pub ran-keeps : {R : Type 0} (P : R → Type 0) (s : ℕ) (t : Stage R) (σ : State R) (c d a b : ℕ)
-    → ((k : ℕ) (o : R) (x : Option ℕ) → P o → P (t .rule k c d a b o x)) → P (σ c d a b) → (k : ℕ) → P (ran s t k σ c d a b)
+pub ran-keeps : {R A : Type 0} (P : R → Type 0) (s : ℕ) (t : Stage R A) (σ : State R) (c d a b : ℕ)
+    → ((k : ℕ) (o : R) (x : Option A) → P o → P (t .rule k c d a b o x)) → P (σ c d a b) → (k : ℕ) → P (ran s t k σ c d a b)
 ran-keeps P s t σ c d a b h p zero = p
 ran-keeps P s t σ c d a b h p (suc k) = h k _ _ (ran-keeps P s t σ c d a b h p k)
 
 -- so does a run of fronts what every joining keeps
-module _ {R : Type 0} (P : R → Type 0) (op : R → ℕ → R) (keeps : (o : R) (x : ℕ) → P o → P (op o x)) where
-  front-keeps : (q p : ℕ) (o : R) (x : Option ℕ) → P o → P (front op q p o x)
+module _ {R A : Type 0} (P : R → Type 0) (op : R → A → R) (keeps : (o : R) (x : A) → P o → P (op o x)) where
+  front-keeps : (q p : ℕ) (o : R) (x : Option A) → P o → P (front op q p o x)
   unfolding front
   front-keeps q p o none l = l
   front-keeps q p o (some x) l = go (eqb p q)
@@ -81,7 +81,7 @@ module _ {R : Type 0} (P : R → Type 0) (op : R → ℕ → R) (keeps : (o : R)
       go true = keeps o x l
       go false = l
 
-  pub from-keeps : (send : R → ℕ) (s : ℕ) (w : Way) (e n : ℕ) (σ : State R) (c d a b : ℕ) → P (σ c d a b) → P (all s (from w send op e n) σ c d a b)
+  pub from-keeps : (send : R → A) (s : ℕ) (w : Way) (e n : ℕ) (σ : State R) (c d a b : ℕ) → P (σ c d a b) → P (all s (from w send op e n) σ c d a b)
   from-keeps send s w e n σ c d a b p =
       ran-keeps P s (from w send op e n) σ c d a b (λ k. front-keeps (stepsOn w e (suc k)) (position w a b)) p n
 

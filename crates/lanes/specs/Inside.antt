@@ -15,7 +15,7 @@ use Rattle.array.specs.Cells.{groups, cells, row, column}
 use Rattle.lanes.specs.declared.Joining.{Joining}
 use Rattle.lanes.specs.declared.Joining.the-variants.{Add, Copy, Fill}
 use Rattle.lanes.specs.declared.steps.Line.{Line}
-use Rattle.lanes.specs.declared.steps.Rule.{Rule}
+use Rattle.lanes.specs.declared.steps.JoinRule.{JoinRule}
 use Rattle.lanes.specs.declared.steps.Source.{Source}
 use Rattle.lanes.specs.declared.steps.Source.the-variants.{At, Nothing}
 use Rattle.lanes.specs.Machine.{State, make, at}
@@ -68,15 +68,15 @@ wordAt l (At i) = some (getD l i 0)
 wordAt l Nothing = none
 
 -- the word of place i after a move of its group
-abbrev pub nextOf : ℕ → Way → Rule → List ℕ → ℕ → ℕ
+abbrev pub nextOf : ℕ → Way → JoinRule → List ℕ → ℕ → ℕ
 nextOf s w r l i = ruleOf (r .joining) (r .front) (position w (row s i) (column s i)) (getD l i 0) (wordAt l (sourceOf s w i))
 
 -- a group after a move
-abbrev pub stepped : ℕ → Way → Rule → List ℕ → List ℕ
+abbrev pub stepped : ℕ → Way → JoinRule → List ℕ → List ℕ
 stepped s w r l = entries (nextOf s w r l) 0 (groups s)
 
 -- the rule of a move in which every place takes what comes
-abbrev pub filling : Rule
+abbrev pub filling : JoinRule
 filling = record { joining = Fill; front = 0 }
 
 -- a group after the turn of the places at position p
@@ -153,5 +153,5 @@ abbrev pub joinFrom : Joining → ℕ → ℕ → ℕ → List ℕ → ℕ → �
 joinFrom j to from apart l k = joinOf j (getD l (to + k * apart) 0) (getD l (from + k * apart) 0)
 
 -- a move of all groups
-abbrev pub steppedAll : ℕ → Way → Rule → State ℕ → State ℕ
+abbrev pub steppedAll : ℕ → Way → JoinRule → State ℕ → State ℕ
 steppedAll s w r = make s (Electronic w) word (λ c d a b. ruleOf (r .joining) (r .front) (position w a b))

@@ -1,6 +1,7 @@
 -- The machine of the word operations. A state gives the registers of each cell, by the row and the column of its group and its own row and
 -- column. In a move every cell hands on one word, which it works out of its registers, and its registers become what a rule makes of its
--- place, the move's number, its own registers and the one word that it receives, if any.
+-- place, the move's number, its own registers and the one word that it receives, if any. R stands for a cell's registers, A for what it hands on:
+-- a number, in the operations on words. Registers.antt says what it is that these are words after every single move.
 use Prim.Native.Nat.{ℕ, zero, suc, _+_, _*_}
 use mathlib.Core.Bool.{cond}
 use mathlib.Core.Option.{Option, none, some}
@@ -19,8 +20,8 @@ abbrev pub State : Type 0 → Type 0
 State R = ℕ → ℕ → ℕ → ℕ → R
 
 -- what a cell makes of its place, its registers and the word that it receives
-abbrev pub Rule : Type 0 → Type 0
-Rule R = ℕ → ℕ → ℕ → ℕ → R → Option ℕ → R
+abbrev pub Rule : Type 0 → Type 0 → Type 0
+Rule R A = ℕ → ℕ → ℕ → ℕ → R → Option A → R
 
 -- what position p of a line receives when each cell hands on to the next, and to the one before; at the edge nothing
 abbrev pub fromBefore : {A : Type 0} → (ℕ → A) → ℕ → Option A
@@ -39,29 +40,29 @@ receive s (Electronic Down) σ c d a b = fromBefore (λ i. σ c d i b) a
 receive s (Electronic Up) σ c d a b = fromAfter s (λ i. σ c d i b) a
 
 -- one move: each cell hands on the word `send`
-abbrev pub make : {R : Type 0} → ℕ → Move → (R → ℕ) → Rule R → State R → State R
+abbrev pub make : {R A : Type 0} → ℕ → Move → (R → A) → Rule R A → State R → State R
 make s m send ρ σ c d a b = ρ c d a b (σ c d a b) (receive s m (λ c d a b. send (σ c d a b)) c d a b)
 
 -- a stage of a program: a run of moves, the word that a cell hands on in it, and the rule of each of its moves
-pub record Stage (R : Type 0) : Type 0 where
+pub record Stage (R A : Type 0) : Type 0 where
   pub run : Run
-  pub send : R → ℕ
-  pub rule : ℕ → Rule R
+  pub send : R → A
+  pub rule : ℕ → Rule R A
 
 -- the first k moves of a stage, and all of them
-abbrev pub ran : {R : Type 0} → ℕ → Stage R → ℕ → State R → State R
+abbrev pub ran : {R A : Type 0} → ℕ → Stage R A → ℕ → State R → State R
 ran s t zero σ = σ
 ran s t (suc k) σ = make s (t .run .step) (t .send) (t .rule k) (ran s t k σ)
 
-abbrev pub all : {R : Type 0} → ℕ → Stage R → State R → State R
+abbrev pub all : {R A : Type 0} → ℕ → Stage R A → State R → State R
 all s t σ = ran s t (t .run .times) σ
 
 -- a program, stage by stage, and the runs that it makes
-abbrev pub made : {R : Type 0} → ℕ → List (Stage R) → State R → State R
+abbrev pub made : {R A : Type 0} → ℕ → List (Stage R A) → State R → State R
 made s [] σ = σ
 made s (t ∷ ts) σ = made s ts (all s t σ)
 
-abbrev pub stageRuns : {R : Type 0} → List (Stage R) → List Run
+abbrev pub stageRuns : {R A : Type 0} → List (Stage R A) → List Run
 stageRuns ts = map (λ t. t .run) ts
 
 -- the cell in row a and column b of the group in row c and column d

@@ -21,7 +21,7 @@ ruleOf Copy = front copy
 ruleOf Fill = λ q p own got. filled got
 
 -- n moves one way: from position e on with a front, or of all positions
-abbrev pub running : Way → Joining → ℕ → ℕ → Stage ℕ
+abbrev pub running : Way → Joining → ℕ → ℕ → Stage ℕ ℕ
 running w j e n = record { run = along w n; send = word; rule = λ k c d a b. ruleOf j (stepsOn w e (suc k)) (position w a b) }
 
 -- a run is one on a board where it starts at a position from 0 to s and makes s moves at most

@@ -23,20 +23,20 @@ stepsOn Up e k = e - k
 stepsOn Down e k = e + k
 
 -- a cell at position p when it is the turn of position q: it joins the word that it receives to what it has
-unfoldable pub front : {R : Type 0} → (R → ℕ → R) → ℕ → ℕ → R → Option ℕ → R
+unfoldable pub front : {R A : Type 0} → (R → A → R) → ℕ → ℕ → R → Option A → R
 front op q p own none = own
 front op q p own (some x) = cond (eqb p q) (op own x) own
 
 -- n moves one way from position e: in each of them the next position joins what it receives
-abbrev pub from : {R : Type 0} → Way → (R → ℕ) → (R → ℕ → R) → ℕ → ℕ → Stage R
+abbrev pub from : {R A : Type 0} → Way → (R → A) → (R → A → R) → ℕ → ℕ → Stage R A
 from w send op e n = record { run = along w n; send = send; rule = λ k c d a b. front op (stepsOn w e (suc k)) (position w a b) }
 
 -- n swaps, in which every cell joins what it receives
-abbrev pub joined : {R : Type 0} → (R → ℕ → R) → R → Option ℕ → R
+abbrev pub joined : {R A : Type 0} → (R → A → R) → R → Option A → R
 joined op own none = own
 joined op own (some x) = op own x
 
-abbrev pub light : {R : Type 0} → ℕ → (R → ℕ) → (R → ℕ → R) → Stage R
+abbrev pub light : {R A : Type 0} → ℕ → (R → A) → (R → A → R) → Stage R A
 light n send op = record { run = swapping n; send = send; rule = λ k c d a b. joined op }
 
 -- words that are handed on as they are, and taken as they come

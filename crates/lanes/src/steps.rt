@@ -14,7 +14,7 @@ ghost use Rattle.lanes.specs.Inside.{FitsBoard, Group, Moved, Places, Ap
 ghost use Rattle.lanes.specs.Runs.{running};
 
 // What the cells do in one move; the front is the position whose turn it is.
-pub struct Rule {
+pub struct JoinRule {
     pub joining: Joining,
     pub front: usize,
 }
@@ -216,7 +216,7 @@ fn fill(part: &mut [u32], side: usize, way: Way)
 }
 
 // One move inside a group, in its own stretch: with a front that position alone has its turn.
-fn step(part: &mut [u32], side: usize, way: Way, rule: Rule, line: Line)
+fn step(part: &mut [u32], side: usize, way: Way, rule: JoinRule, line: Line)
     requires { ⌜ Group side (length (now part)) ⌝ }
     requires { ⌜ line ≡ lineAt side way (rule .front) ⌝ }
     ensures { λ _. ⌜ now (part .exit) ≡ stepped side way rule (now (part .entry)) ⌝ }
@@ -230,7 +230,7 @@ fn step(part: &mut [u32], side: usize, way: Way, rule: Rule, line: Line)
 }
 
 // One move of all groups: each is lent its own stretch of the lane.
-fn step_all(words: &mut [u32], side: usize, way: Way, rule: Rule)
+fn step_all(words: &mut [u32], side: usize, way: Way, rule: JoinRule)
     requires { ⌜ FitsBoard side (length (now words)) ⌝ }
     ensures { λ _. ⌜ Moved side (steppedAll side way rule) (now (words .entry)) (now (words .exit)) ⌝ }
 {
@@ -273,7 +273,7 @@ pub(crate) fn run_board(
 {
     let mut k = 0;
     while k < n {
-        let rule = Rule {
+        let rule = JoinRule {
             joining: joining,
             front: steps_on(way, e, k + 1),
         };

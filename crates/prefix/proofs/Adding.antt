@@ -18,6 +18,7 @@ use Rattle.lanes.specs.Inside.{swapped}
 use Rattle.prefix.specs.Inside.{summed, copied, modified, finished}
 use Rattle.lanes.proofs.Coordinates.{unload-by, sum-to}
 use Rattle.lanes.proofs.Lines.{right-all, down-all, left-all, up-all, acc-copy, acc-plus}
+use Rattle.lanes.proofs.Registers.{minus-word}
 use Rattle.lanes.proofs.Views.{lane, from-view, from-keeps, from-stays}
 
 -- the lanes of the nine steps
@@ -63,9 +64,6 @@ parts-are s w = refl
 -- what is taken off again was added
 off-again : (x y : ℕ) → x < 2 ^ 32 → minus (plus x y) y ≡ x
 off-again x y h = omega arith
-
-reduced : (x y : ℕ) → minus x y < 2 ^ 32
-reduced x y = omega arith
 
 on-again : (z y a : ℕ) → minus z a ≡ minus (plus (minus z y) y) a
 on-again z y a = omega arith
@@ -143,7 +141,7 @@ module _ (s : ℕ) (w : State ℕ) where
 
   u₆ : lane rowsAbove σ₆ ≡ U₆ s w
   unfolding σ₆ U₆
-  u₆ = from-view rowsAbove takeAbove copy (λ o g. off-again (rowsAbove g) (o .y) (reduced (g .z) (g .y))) s Left (s - 1) (s - 1)
+  u₆ = from-view rowsAbove takeAbove copy (λ o g. off-again (rowsAbove g) (o .y) (minus-word (g .z) (g .y))) s Left (s - 1) (s - 1)
       (ap₂ {C = State ℕ} (λ (τ υ : State ℕ) c d a b. minus (τ c d a b) (υ c d a b)) z₅ y₅)
 
   y₆ : lane (λ o. o .y) σ₆ ≡ Y₄ s w
@@ -194,7 +192,7 @@ module _ (s : ℕ) (w : State ℕ) where
 
   v₉ : lane rowBefore σ₉ ≡ V₉ s w
   unfolding σ₉ V₉
-  v₉ = from-view rowBefore takeRow copy (λ o g. off-again (rowBefore g) (o .r) (reduced (plus (g .z) (g .c)) (g .r))) s Left (s - 1) (s - 1) v₈
+  v₉ = from-view rowBefore takeRow copy (λ o g. off-again (rowBefore g) (o .r) (minus-word (plus (g .z) (g .c)) (g .r))) s Left (s - 1) (s - 1) v₈
 
   r₉ : lane (λ o. o .r) σ₉ ≡ R₁ s w
   unfolding σ₉

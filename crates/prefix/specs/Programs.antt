@@ -5,6 +5,7 @@ use Rattle.array.specs.declared.moves.Way.the-variants.{Right, Left, Up, Down}
 use Rattle.lanes.specs.Machine.{State, Stage, made}
 use Rattle.sums.specs.Sums.{plus, minus}
 use Rattle.lanes.specs.Stages.{from, light}
+use Rattle.lanes.specs.Registers.{IsWord}
 
 -- Prefix sum, in the paper's nine steps.
 -- r: the sum of the cell's row up to it. c: that of r down its column, its own row included. a: what came by light.
@@ -15,6 +16,14 @@ pub record Sums : Type 0 where
   pub a : ℕ
   pub y : ℕ
   pub z : ℕ
+
+-- all five are words
+pub record FiveWords (o : Sums) : Type 0 where
+  pub r : IsWord (o .r)
+  pub c : IsWord (o .c)
+  pub a : IsWord (o .a)
+  pub y : IsWord (o .y)
+  pub z : IsWord (o .z)
 
 abbrev pub loadSums : ℕ → Sums
 loadSums w = record { r = w; c = w; a = 0; y = 0; z = 0 }
@@ -61,7 +70,7 @@ takeRow o x = record { r = o .r; c = o .r; a = o .a; y = o .y; z = x }
 abbrev pub unloadSums : Sums → ℕ
 unloadSums o = plus (o .r) (rowBefore o)
 
-abbrev pub prefixSum : ℕ → List (Stage Sums)
+abbrev pub prefixSum : ℕ → List (Stage Sums ℕ)
 prefixSum s =
     from Right (λ o. o .r) addRow 0 (s - 1) ∷
     from Down (λ o. o .c) addColumn 0 (s - 1) ∷

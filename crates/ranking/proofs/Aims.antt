@@ -2,7 +2,7 @@
 use Prim.Native.Nat.{ℕ, zero, suc, _-_, _%_, _^_, _≤_, _<_}
 use mathlib.Core.Path.{_≡_, refl, sym, ap, _∙_}
 use mathlib.Core.Bool.{Bool, true, false, cond}
-use mathlib.Core.List.{List}
+use mathlib.Core.List.{List, [], _∷_, map}
 use native.Mathlib.Omega.{arith}
 use lib.Dec.{eqb, ltb}
 use lib.ListN.{length, getD}
@@ -13,11 +13,16 @@ use Rattle.laws.specs.Tables.{entries}
 use Rattle.laws.proofs.Tables.{length-entries, entry-at}
 use Rattle.array.specs.Cells.{cells, isBoard}
 use Rattle.array.proofs.Board.{side-known}
-use Rattle.lanes.specs.Machine.{load, unload}
-use Rattle.prefix.specs.Programs.{prefixed}
+use Rattle.lists.specs.Lists.{prefixSumRuns}
+use Rattle.lanes.specs.Machine.{State, Stage, make, ran, all, made, stageRuns, at, load, unload}
+use Rattle.lanes.specs.Registers.{IsWord}
+use Rattle.lanes.proofs.Coordinates.{at<, unload-by}
+use Rattle.lanes.proofs.Held.{unload-holds}
+use Rattle.prefix.specs.Programs.{Sums, loadSums, prefixSum, prefixed}
 use Rattle.prefix.specs.Results.{prefixSumWords, prefixSumLane}
 use Rattle.prefix.proofs.Adding.{prefixSum-all}
 use Rattle.ranking.specs.Inside.{Summed, Marked}
+use Rattle.ranking.specs.Programs.{Ranking, withMark, rank, unloadAim, rankedMarks}
 use Rattle.ranking.specs.Ranks.{aimIn, aimOf, ranks}
 
 -- so many marks are marked at most
@@ -76,11 +81,41 @@ summed-least {s} {marks} {loaded} {sums} z h l e =
 pub ranks-are : (s : ℕ) (marks : List ℕ) → length marks ≡ cells s → entries (aimIn marks) 0 (length marks) ≡ ranks s marks
 ranks-are s marks h = ap (entries (aimIn marks) 0) h
 
--- rank, step by step, for every side: the prefix sum's moves on good marks, with one taken off in each marked cell, give the ranks
-pub rank-steps : (s : ℕ) (marks : List ℕ) → 1 ≤ s → ((i : ℕ) → getD marks i 0 < 2) → (i : ℕ) → i < cells s
-    → cells s ≤ 2 ^ 31 → aimOf (getD marks i 0) (getD (unload s (prefixed s (load s marks))) i 0) ≡ aimIn marks i
-rank-steps s marks pos good i h few =
-    one-off marks i (getD (unload s (prefixed s (load s marks))) i 0)
-    (ap (λ (l : List ℕ). getD l i 0) (prefixSum-all s marks pos (λ k. omega (arith, good k)))
-    ∙ entry-at (λ i. sumOf (suc i) marks % 2 ^ 32) (cells s) i 0 h
-    ∙ mod-eq-of-lt (omega (arith, few-marked marks (suc i) (λ k u. good k))))
+-- the mark stays beside the registers of the stages
+abbrev beside : State Sums → State ℕ → State Ranking
+beside σ marks c d a b = record { sums = σ c d a b; mark = marks c d a b }
+
+ran-beside : (s : ℕ) (t : Stage Sums ℕ) (k : ℕ) (σ : State Sums) (marks : State ℕ)
+    → ran s (withMark t) k (beside σ marks) ≡ beside (ran s t k σ) marks
+ran-beside s t zero σ marks = refl
+ran-beside s t (suc k) σ marks = ap (make s (t .run .step) (withMark t .send) (withMark t .rule k)) (ran-beside s t k σ marks)
+
+made-beside : (s : ℕ) (ts : List (Stage Sums ℕ)) (σ : State Sums) (marks : State ℕ)
+    → made s (map withMark ts) (beside σ marks) ≡ beside (made s ts σ) marks
+made-beside s [] σ marks = refl
+made-beside s (t ∷ ts) σ marks =
+    ap (made s (map withMark ts)) (ran-beside s t (t .run .times) σ marks) ∙ made-beside s ts (all s t σ) marks
+
+-- so at the end a cell has its mark and the prefix sum
+ranked-marks : (s : ℕ) (σ : State ℕ) → rankedMarks s σ ≡ (λ c d a b. aimOf (σ c d a b) (prefixed s σ c d a b))
+ranked-marks s σ =
+    ap {B = State ℕ} (λ (τ : State Ranking) c d a b. unloadAim (τ c d a b)) (made-beside s (prefixSum s) (λ c d a b. loadSums (σ c d a b)) σ)
+
+-- rank, step by step, for every side: its moves made on good marks give the ranks, where a word can count the cells
+pub rank-steps : (s : ℕ) (marks : List ℕ) → 1 ≤ s → IsWord (cells s) → ((i : ℕ) → getD marks i 0 < 2)
+    → unload s (rankedMarks s (load s marks)) ≡ ranks s marks
+rank-steps s marks pos few good =
+    ap (unload s) (ranked-marks s (load s marks))
+    ∙ unload-by s _ (aimIn marks) pos (λ c d a b hc hd ha hb. one-off marks (at s c d a b) _ (summed-at c d a b hc hd ha hb))
+  where
+    summed-at : (c d a b : ℕ) → c < s → d < s → a < s → b < s → prefixed s (load s marks) c d a b ≡ sumOf (suc (at s c d a b)) marks
+    summed-at c d a b hc hd ha hb =
+        let i-in = at< s c d a b hc hd ha hb in
+        sym (unload-holds s (prefixed s (load s marks)) .is c d a b hc hd ha hb)
+        ∙ ap (λ (l : List ℕ). getD l (at s c d a b) 0) (prefixSum-all s marks pos (λ k. omega (arith, good k)))
+        ∙ entry-at (λ i. sumOf (suc i) marks % 2 ^ 32) (cells s) (at s c d a b) 0 i-in
+        ∙ mod-eq-of-lt (omega (arith, few-marked marks (suc (at s c d a b)) (λ k u. good k)))
+
+-- the moves that the program makes are those of the list
+pub rank-moves : (s : ℕ) → stageRuns (rank s) ≡ prefixSumRuns s
+rank-moves s = refl

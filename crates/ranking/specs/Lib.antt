@@ -1,3 +1,4 @@
 pub mod Entries
 pub mod Inside
+pub mod Programs
 pub mod Ranks

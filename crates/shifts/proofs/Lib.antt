@@ -1,3 +1,4 @@
 pub mod Composing
+pub mod Registers
 pub mod Shifting
 pub mod Spotted

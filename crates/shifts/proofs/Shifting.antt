@@ -84,10 +84,10 @@ taken n false y y′ x x′ e = rw (lt-ltb 0 (suc n) (omega arith)) (e ∙ never
 
 -- the machine's two registers
 module _ (s : ℕ) (w : Way) (edge : Edge) (k : Distance) (σ : State ℕ) where
-  forthStage : Stage Shifting
+  forthStage : Stage Shifting ℕ
   forthStage = record { run = along w (forthMoves edge s k); send = λ o. o .x; rule = λ n c d a b. forth }
 
-  backStage : Stage Shifting
+  backStage : Stage Shifting ℕ
   backStage = record {
     run = along (opposite w) (backMoves edge s k);
     send = λ o. o .y;

@@ -13,11 +13,17 @@ use Rattle.runs.specs.Runs.{along}
 use Rattle.shiftlists.specs.Shifts.{forthMoves, backMoves, forthWay, swapsOf}
 use Rattle.lanes.specs.Machine.{State, Stage, made}
 use Rattle.lanes.specs.Stages.{position, light, filled}
+use Rattle.lanes.specs.Registers.{IsWord}
 
 -- Shifts: x goes forth and y goes back, and 0 comes in at the edge.
 pub record Shifting : Type 0 where
   pub x : ℕ
   pub y : ℕ
+
+-- both are words
+pub record TwoWords (o : Shifting) : Type 0 where
+  pub x : IsWord (o .x)
+  pub y : IsWord (o .y)
 
 abbrev pub loadShift : ℕ → Shifting
 loadShift w = record { x = w; y = w }
@@ -36,7 +42,7 @@ back takes o got = record { x = cond takes (filled got) (o .x); y = filled got }
 abbrev pub swapShift : Shifting → ℕ → Shifting
 swapShift o x = loadShift x
 
-abbrev pub shift : ℕ → Axis → Edge → Distance → List (Stage Shifting)
+abbrev pub shift : ℕ → Axis → Edge → Distance → List (Stage Shifting ℕ)
 shift s axis edge k =
     light (swapsOf axis) (λ o. o .x) swapShift ∷
     record { run = along (forthWay axis) (forthMoves edge s k); send = λ o. o .x; rule = λ n c d a b. forth } ∷

@@ -50,7 +50,7 @@ line-summed s f g h p l =
     ∙ acc-plus _ g (s - 1) (λ i l′. ap f (zero-add i) ∙ h i (omega arith)) ∙ ap (λ n. sum n g % (2 ^ 32)) q
 
 -- two stages along rows, or along columns, are two runs along each line
-module _ (s : ℕ) (σ : State ℕ) (c d : ℕ) (ρ ρ′ : ℕ → Rule ℕ) (k k′ : ℕ) where
+module _ (s : ℕ) (σ : State ℕ) (c d : ℕ) (ρ ρ′ : ℕ → Rule ℕ ℕ) (k k′ : ℕ) where
   right-left : (a b : ℕ) → all s (plain Left k′ ρ′) (all s (plain Right k ρ) σ) c d a b
       ≡ line (fromAfter s) (λ k. ρ′ k c d a) k′ (line fromBefore (λ k. ρ k c d a) k (σ c d a)) b
   right-left a b =

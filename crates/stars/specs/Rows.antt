@@ -31,6 +31,7 @@ use Rattle.mesh.specs.Mesh.{ranOn}
 use Rattle.mover.specs.Runs.{swapped, madeOf, after, movedLog}
 use Rattle.course.specs.Showing.{contentOf}
 use Rattle.clearing.specs.Cleared.{kept}
+use Rattle.ranking.specs.Programs.{rankedMarks}
 use Rattle.ranking.specs.Ranks.{ranks}
 use Rattle.refusals.specs.declared.Sizes.{Sizes}
 use Rattle.refusals.specs.Cases.{fullCases}
@@ -145,7 +146,7 @@ resultRow (Shift s axis edge k words) =
 -- by the moves, made one after the other
 unfoldable pub movedRow : Case → Row
 unfolding front
-movedRow (Concentrate s words marks) = moving concentrate s words marks (ranks s marks)
+movedRow (Concentrate s words marks) = moving concentrate s words marks (unload s (rankedMarks s (load s marks)))
 movedRow (Distribute s words marks aims) = moving distribute s words marks aims
 movedRow (PrefixSum s words) =
     wordsRow (sumAnswer s (prefixSumRuns s) (length words)) (programRuns (prefixSum s)) (unload s (prefixed s (load s words)))
