@@ -1,3 +1,4 @@
 pub mod Counting
 pub mod Entering
+pub mod Lowest
 pub mod Verdicts

@@ -1,2 +1,3 @@
 pub mod Aims
 pub mod Answering
+pub mod Order

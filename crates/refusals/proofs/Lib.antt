@@ -1,3 +1,4 @@
 pub mod Aims
 pub mod Judged
+pub mod Order
 pub mod Verdicting
