@@ -1,4 +1,5 @@
 pub mod Aims
+pub mod FirstMoves
 pub mod Judged
 pub mod Order
 pub mod Verdicting
