@@ -1,3 +1,4 @@
+pub mod Accepting
 pub mod Aims
 pub mod FirstMoves
 pub mod Judged
