@@ -1,3 +1,4 @@
 pub mod Aims
 pub mod Answering
 pub mod Order
+pub mod Outcomes
