@@ -2,3 +2,4 @@ pub mod Backwards
 pub mod Demand3
 pub mod Marked
 pub mod Performing
+pub mod Source

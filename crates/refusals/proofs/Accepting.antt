@@ -32,7 +32,7 @@ abbrev pub Asked : Trip → ℕ → List ℕ → List ℕ → Type 0
 Asked Concentrate s marks aims = RankedAims s marks aims
 Asked Distribute s marks aims = Aimed s (rankIn marks (cells s)) marks aims
 
-ranked-good : (s : ℕ) (marks aims : List ℕ) → length marks ≡ cells s → RankedAims s marks aims → Good Concentrate s marks aims
+pub ranked-good : (s : ℕ) (marks aims : List ℕ) → length marks ≡ cells s → RankedAims s marks aims → Good Concentrate s marks aims
 ranked-good s marks aims n z = record {
   marks-good = λ i h. omega (arith, z .mark i (omega arith));
   aims-good = λ i h. go i (omega arith) (eqb (getD marks i 0) 1) refl;
