@@ -1,6 +1,6 @@
 -- JobLanes of a board with good marks: rank accepts them, concentrate accepts what rank leaves, and its logs and words are those of the marked cells.
 use Prim.Native.Nat.{ℕ, _≤_, _<_}
-use mathlib.Core.Path.{_≡_, refl, ap, _∙_}
+use mathlib.Core.Path.{_≡_, ap, _∙_}
 use mathlib.Core.Bool.{true}
 use mathlib.Core.List.{List, []}
 use native.Mathlib.Omega.{arith}
