@@ -12,8 +12,8 @@ use Rattle.answers.specs.declared.Case.{Case}
 use Rattle.answers.specs.Entry.{Entry}
 
 -- the same loan, with these numbers in it afterwards
-abbrev pub leaving : Lent → List ℕ → Lent
-leaving l numbers = record { entry = l .entry; exit = at-last (l .exit) numbers }
+abbrev pub leftWith : Lent → List ℕ → Lent
+leftWith l numbers = record { entry = l .entry; exit = at-last (l .exit) numbers }
 
 module _ {cases : List Case} {list : List Run} {Lanes Lanes′ Logs Logs′ Kept Kept′ : Type 0} {r r′ : Answer}
     (z : Entry cases list Lanes Logs Kept r) (z′ : Entry cases list Lanes′ Logs′ Kept′ r′) where

@@ -9,7 +9,7 @@ use lib.Seq.{ext-getD}
 use Rattle.laws.specs.Lent.{Lent, old, new}
 use Rattle.array.specs.Cells.{cells}
 use Rattle.answers.specs.declared.Answer.{Answer}
-use Rattle.answers.proofs.Outcomes.{leaving, same-outcome}
+use Rattle.answers.proofs.Outcomes.{leftWith, same-outcome}
 use Rattle.light.specs.Lanes.{slots, Table, tableAfter}
 use Rattle.slots.specs.declared.Cell.{Cell}
 use Rattle.slots.specs.Cells.{cellAt, Sized}
@@ -63,22 +63,22 @@ measured s w m a w₂ m₂ a₂ f k = record {
 -- an outcome, and another of the same loans that leaves the lanes t
 module _ (trip : Trip) (s : ℕ) (w m a w₂ m₂ a₂ : Lent) (t : Table) where
   abbrev w′ : Lent
-  w′ = leaving w (t .front .words)
+  w′ = leftWith w (t .front .words)
 
   abbrev m′ : Lent
-  m′ = leaving m (t .front .marks)
+  m′ = leftWith m (t .front .marks)
 
   abbrev a′ : Lent
-  a′ = leaving a (t .front .aims)
+  a′ = leftWith a (t .front .aims)
 
   abbrev w₂′ : Lent
-  w₂′ = leaving w₂ (t .spare .words)
+  w₂′ = leftWith w₂ (t .spare .words)
 
   abbrev m₂′ : Lent
-  m₂′ = leaving m₂ (t .spare .marks)
+  m₂′ = leftWith m₂ (t .spare .marks)
 
   abbrev a₂′ : Lent
-  a₂′ = leaving a₂ (t .spare .aims)
+  a₂′ = leftWith a₂ (t .spare .aims)
 
   module _ (k : LengthsKept w m a w₂ m₂ a₂) (k′ : LengthsKept w′ m′ a′ w₂′ m₂′ a₂′) where
     stood-same : (n : ℕ) → Fitting s (length (old m)) (length (old a)) (sizesOf (old w) (old w₂) (old m₂) (old a₂))
@@ -95,7 +95,7 @@ module _ (trip : Trip) (s : ℕ) (w m a w₂ m₂ a₂ : Lent) (t : Table) where
         (λ e e′. e ∙ sym e′)
 
     pub full-same : (codes moved : Lent) (c d : List ℕ) {r r′ : Answer} → FullRun trip s w m a w₂ m₂ a₂ codes moved r
-        → FullRun trip s w′ m′ a′ w₂′ m₂′ a₂′ (leaving codes c) (leaving moved d) r′
+        → FullRun trip s w′ m′ a′ w₂′ m₂′ a₂′ (leftWith codes c) (leftWith moved d) r′
         → (r ≡ r′) × ((tableAfter w m a w₂ m₂ a₂ ≡ t) × ((new codes ≡ c) × (new moved ≡ d)))
     full-same codes moved c d z z′ =
         let known = full-known trip s (sizesOf (old w) (old w₂) (old m₂) (old a₂)) (old m) (old a) (length (old codes)) (length (old moved)) (z .answer) in
