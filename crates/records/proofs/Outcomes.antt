@@ -27,7 +27,8 @@ Measured n t = Sized n (t .front .words) (t .front .marks) (t .front .aims) (t .
 
 -- tables of one length that hold the same cells are the same
 module _ (n : ℕ) (t u : Table) (long : Measured n t) (long′ : Measured n u) (same : (j : ℕ) → j < n → cellIn t j ≡ cellIn u j) where
-  lane : (l l′ : List ℕ) (f : Cell → ℕ) → length l ≡ n → length l′ ≡ n → ((j : ℕ) → f (cellIn t j) ≡ getD l j 0) → ((j : ℕ) → f (cellIn u j) ≡ getD l′ j 0) → l ≡ l′
+  lane : (l l′ : List ℕ) (f : Cell → ℕ) → length l ≡ n → length l′ ≡ n
+      → ((j : ℕ) → f (cellIn t j) ≡ getD l j 0) → ((j : ℕ) → f (cellIn u j) ≡ getD l′ j 0) → l ≡ l′
   lane l l′ f e e′ g g′ = ext-getD 0 l l′ (e ∙ sym e′) (λ j h. sym (g j) ∙ ap f (same j (omega arith)) ∙ g′ j)
 
   same-table : t ≡ u
@@ -82,7 +83,8 @@ module _ (trip : Trip) (s : ℕ) (w m a w₂ m₂ a₂ : Lent) (t : Table) where
 
   module _ (k : LengthsKept w m a w₂ m₂ a₂) (k′ : LengthsKept w′ m′ a′ w₂′ m₂′ a₂′) where
     stood-same : (n : ℕ) → Fitting s (length (old m)) (length (old a)) (sizesOf (old w) (old w₂) (old m₂) (old a₂))
-        → Stood trip s n (old w) (old m) (old a) (cellsAfter w m a w₂ m₂ a₂) → Stood trip s n (old w) (old m) (old a) (cellIn t) → tableAfter w m a w₂ m₂ a₂ ≡ t
+        → Stood trip s n (old w) (old m) (old a) (cellsAfter w m a w₂ m₂ a₂) → Stood trip s n (old w) (old m) (old a) (cellIn t)
+        → tableAfter w m a w₂ m₂ a₂ ≡ t
     stood-same n f o o′ =
         same-table (cells s) (tableAfter w m a w₂ m₂ a₂) t (measured s w m a w₂ m₂ a₂ f k) (measured s w′ m′ a′ w₂′ m₂′ a₂′ f k′)
         (λ j h. o .shown j h ∙ sym (o′ .shown j h))

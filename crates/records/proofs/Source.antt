@@ -149,5 +149,6 @@ module _ (s : ℕ) (marks₂ aims₂ : List ℕ) (long₂ : length marks₂ ≡ 
   -- distribute is that concentrate run backwards
   pub runs-back : 0 < s → (words words₂ : List ℕ) (k : ℕ) {T U : ℕ → Cell} → Stood Distribute s k words₂ marks₂ aims₂ T
       → Stood Concentrate s (totalMoves s - k) words marks (namedRanks s b aims₂) U → (j : ℕ) → j < cells s → (f : Slot)
-      → Alike (countIn s marks) (recordOf Distribute s words₂ marks₂ aims₂) (recordOf Concentrate s words marks (namedRanks s b aims₂)) (slot f (T j)) (slot f (U j))
+      → Alike (countIn s marks) (recordOf Distribute s words₂ marks₂ aims₂) (recordOf Concentrate s words marks (namedRanks s b aims₂))
+      (slot f (T j)) (slot f (U j))
   runs-back pos words words₂ = state-by-state pos (source .long) long₂ (source .good) good₂ (source .as-many) (source .back) words words₂

@@ -10,6 +10,7 @@ use Rattle.answers.proofs.Outcomes.{leftWith, same-outcome}
 use Rattle.words.specs.Entries.{OnWords}
 
 pub words-same : (cases : ℕ → ℕ → List Case) (list : List Run) (result : List ℕ → List ℕ) (words log : Lent) (w l : List ℕ) {r r′ : Answer}
-    → OnWords cases list result words log r → OnWords cases list result (leftWith words w) (leftWith log l) r′ → (r ≡ r′) × ((new words ≡ w) × (new log ≡ l))
+    → OnWords cases list result words log r → OnWords cases list result (leftWith words w) (leftWith log l) r′
+    → (r ≡ r′) × ((new words ≡ w) × (new log ≡ l))
 words-same cases list result words log w l z z′ =
     same-outcome z z′ (λ h e e′ f f′. (e ∙ sym e′, f ∙ sym f′)) (λ k k′. (k .0 ∙ sym (k′ .0), k .1 ∙ sym (k′ .1)))
