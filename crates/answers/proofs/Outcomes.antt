@@ -11,7 +11,7 @@ use Rattle.answers.specs.declared.Answer.{Answer}
 use Rattle.answers.specs.declared.Case.{Case}
 use Rattle.answers.specs.Entry.{Entry}
 
--- the same loan, with these numbers in it afterwards
+-- the same loan, with these numbers in it afterwards. Of a loan a contract reads what it held and what it holds, and no more
 abbrev pub leftWith : Lent → List ℕ → Lent
 leftWith l numbers = record { entry = l .entry; exit = at-last (l .exit) numbers }
 

@@ -24,7 +24,7 @@ use Rattle.marks.specs.Marks.{rankIn, marksCase}
 use Rattle.marks.proofs.Checked.{good-passes}
 use Rattle.refusals.specs.declared.Sizes.{Sizes}
 use Rattle.refusals.specs.Cases.{badAim, firstAim, aimsCase, cutCase, laneCases, fullCases, cutCases, Good}
-use Rattle.refusals.proofs.Aims.{RankedAims, Aimed}
+use Rattle.refusals.proofs.Aims.{RankedAims, Aimed, first-marked}
 use Rattle.refusals.proofs.Verdicting.{Fitting}
 
 -- the marks and aims that a trip asks for: every marked cell's aim its rank; the first cells marked, with rising aims
@@ -43,15 +43,12 @@ ranked-good s marks aims n z = record {
     go i h false e = rw e
 
 module _ (s b : ℕ) (side : isSide s ≡ true) (marks aims : List ℕ) (n : length marks ≡ cells s) (z : Aimed s b marks aims) where
-  first-marked : (i : ℕ) → i < b → getD marks i 0 ≡ 1
-  first-marked i h = z .first i (omega (arith, z .few)) ∙ rw (lt-ltb i b h)
-
   not-marked : (i : ℕ) → i < cells s → b ≤ i → getD marks i 0 ≡ 0
   not-marked i l h = z .first i l ∙ rw (le-ltb i b h)
 
   own-rank : (i : ℕ) → i ≤ b → rankIn marks i ≡ i
   own-rank zero h = refl
-  own-rank (suc i) h = omega (arith, own-rank i (omega arith), first-marked i h)
+  own-rank (suc i) h = omega (arith, own-rank i (omega arith), first-marked z i h)
 
   above : (i : ℕ) → i < b → (ltb 0 i && leb (getD aims i 0) (getD aims (i - 1) 0)) ≡ false
   above zero h = refl
@@ -62,7 +59,7 @@ module _ (s b : ℕ) (side : isSide s ≡ true) (marks aims : List ℕ) (n : len
   not-bad : (i : ℕ) → i < b → badAim Distribute s marks aims i ≡ false
   not-bad i h =
       rw (
-        eq-eqb (getD marks i 0) 1 (first-marked i h),
+        eq-eqb (getD marks i 0) 1 (first-marked z i h),
         le-ltb (rankIn marks i) i (omega (arith, own-rank i (omega arith))),
         side,
         lt-ltb (getD aims i 0) (cells s) (z .below i h),
@@ -71,7 +68,7 @@ module _ (s b : ℕ) (side : isSide s ≡ true) (marks aims : List ℕ) (n : len
 
   aimed-good : Good Distribute s marks aims
   aimed-good = record {
-    marks-good = λ i h. ⊎-elim (λ l. omega (arith, first-marked i l)) (λ l. omega (arith, not-marked i (omega arith) l)) (apart i b);
+    marks-good = λ i h. ⊎-elim (λ l. omega (arith, first-marked z i l)) (λ l. omega (arith, not-marked i (omega arith) l)) (apart i b);
     aims-good = λ i h. ⊎-elim (not-bad i) (λ l. rw (ne-eqb (getD marks i 0) 1 (λ e. omega (arith, e, not-marked i (omega arith) l)))) (apart i b);
   }
 
