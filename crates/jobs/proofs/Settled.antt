@@ -1,22 +1,19 @@
 -- JobLanes of a board with good marks: rank accepts them, concentrate accepts what rank leaves, and its logs and words are those of the marked cells.
 use Prim.Native.Nat.{ℕ, _≤_, _<_}
-use mathlib.Core.Path.{_≡_, refl, ap, _∙_}
-use mathlib.Core.Bool.{Bool, true, false, not, _&&_}
+use mathlib.Core.Path.{_≡_, ap, _∙_}
+use mathlib.Core.Bool.{true}
 use mathlib.Core.List.{List, []}
 use native.Mathlib.Omega.{arith}
-use borrow.Author.Tests.{eq-eqb, le-ltb}
+use borrow.Author.Tests.{eq-eqb}
 use lib.ListN.{length, getD, take, length-append, length-drop}
 use lib.Seq.{take-at}
-use lib.Dec.{eqb}
-use Rattle.laws.specs.Searching.{first}
-use Rattle.laws.proofs.Searching.{all-passed}
 use Rattle.laws.proofs.Tables.{entry-at, length-entries}
 use Rattle.answers.specs.declared.Answer.{Answer}
 use Rattle.array.specs.Cells.{isSide, cells}
 use Rattle.runs.specs.Runs.{codes as codesOf}
 use Rattle.lists.specs.declared.Trip.the-variants.{Concentrate}
 use Rattle.lists.specs.Lists.{totalMoves, concentrateRuns, prefixSumRuns}
-use Rattle.answers.specs.Answers.{verdict, acceptedBy, logCase}
+use Rattle.answers.specs.Answers.{verdict, acceptedBy}
 use Rattle.answers.specs.Entry.{Entry, inFront}
 use Rattle.array.proofs.Board.{side-known}
 use Rattle.lists.proofs.Counts.{prefix-sum-length, concentrate-length}
@@ -24,70 +21,51 @@ use Rattle.answers.proofs.Verdicts.{accepted-is, side-passes, lane-passes, log-
 use Rattle.answers.proofs.Entering.{codes-length}
 use Rattle.slots.specs.declared.Cell.{Cell}
 use Rattle.slots.specs.Cells.{Sized}
-use Rattle.marks.specs.Marks.{marksCase, rankIn}
 use Rattle.marks.proofs.Checked.{good-passes}
 use Rattle.ranking.specs.Ranks.{aimIn, ranks}
 use Rattle.ranking.specs.Entries.{rankCases}
-use Rattle.refusals.specs.Cases.{badAim, aimsCase, fullCases, Good}
+use Rattle.refusals.specs.Cases.{fullCases, Good}
+use Rattle.refusals.proofs.Verdicting.{Fitting}
+use Rattle.refusals.proofs.Accepting.{Asked, asked-good, full-accepted}
 use Rattle.records.specs.Records.{movedCounts}
 use Rattle.records.specs.Entries.{Stood, sizesOf}
 use Rattle.jobs.specs.Inside.{JobBoard, Settled}
 use Rattle.jobs.proofs.Ended.{word-there}
 
 module _ (s : ℕ) (side : isSide s ≡ true) (marks : List ℕ) (long : length marks ≡ cells s) (good : (k : ℕ) → k < length marks → getD marks k 0 < 2) where
-  marks-pass : marksCase marks .applies ≡ false
-  marks-pass = good-passes marks good
-
   -- rank accepts
   pub rank-accepts : (aims log : ℕ) (a : Answer) → aims ≡ cells s → 51 ≤ log → verdict (rankCases s marks aims log) a ≡ a
   rank-accepts aims log a e h =
       let room = log-passes (prefixSumRuns s) log (omega (arith, prefix-sum-length s, side-known s side .most)) in
-      accepted-is (rankCases s marks aims log) a (side-passes s side, (lane-passes s (length marks) long, (lane-passes s aims e, (room, (marks-pass, tt)))))
+      accepted-is (rankCases s marks aims log) a (side-passes s side, (lane-passes s (length marks) long, (lane-passes s aims e, (room, (good-passes marks good, tt)))))
 
-  -- its aims are good
-  aim-good : (k : ℕ) → k < length marks → badAim Concentrate s marks (ranks s marks) k ≡ false
-  aim-good k l = go (eqb (getD marks k 0) 1) refl
-    where
-      there : getD (ranks s marks) k 0 ≡ aimIn marks k
-      there = entry-at (aimIn marks) (cells s) k 0 (omega arith)
-
-      go : (t : Bool) → eqb (getD marks k 0) 1 ≡ t → (eqb (getD marks k 0) 1 && not (eqb (getD (ranks s marks) k 0) (rankIn marks k))) ≡ false
-      go true e = let f : getD (ranks s marks) k 0 ≡ rankIn marks k = there ∙ rw e in rw (e, eq-eqb (getD (ranks s marks) k 0) (rankIn marks k) f)
-      go false e = rw e
+  -- its aims are those that concentrate asks for
+  ranks-asked : Asked Concentrate s marks (ranks s marks)
+  ranks-asked = record {
+    mark = λ i h. omega (arith, good i (omega arith));
+    rank = λ i h e. entry-at (aimIn marks) (cells s) i 0 h ∙ rw (eq-eqb (getD marks i 0) 1 e);
+  }
 
   pub ranks-good : Good Concentrate s marks (ranks s marks)
-  ranks-good = record { marks-good = good; aims-good = aim-good }
-
-  aims-pass : aimsCase Concentrate s marks (ranks s marks) .applies ≡ false
-  aims-pass =
-      le-ltb (first (badAim Concentrate s marks (ranks s marks)) (length marks)) (length marks)
-      (omega (arith, all-passed (badAim Concentrate s marks (ranks s marks)) (length marks) aim-good))
+  ranks-good = asked-good Concentrate s marks (ranks s marks) side long ranks-asked
 
   -- concentrate accepts
   pub concentrate-accepts : (w a w₂ m₂ a₂ : List ℕ) (codes moved : ℕ) (b : Answer) → Sized (cells s) w marks a w₂ m₂ a₂ → 51 ≤ codes → 51 ≤ moved
       → verdict (fullCases Concentrate s (sizesOf w w₂ m₂ a₂) marks (ranks s marks) codes moved) b ≡ b
   concentrate-accepts w a w₂ m₂ a₂ codes moved b z c m =
-      let logs : (n : ℕ) → 51 ≤ n → logCase (concentrateRuns s) n .applies ≡ false = λ n h.
-      log-passes (concentrateRuns s) n (omega (arith, concentrate-length s, side-known s side .most)) in
-      accepted-is (fullCases Concentrate s (sizesOf w w₂ m₂ a₂) marks (ranks s marks) codes moved) b (
-        side-passes s side,
-        (
-          lane-passes s (length w) (z .words),
-          (
-            lane-passes s (length marks) long,
-            (
-              lane-passes s (length (ranks s marks)) (length-entries (aimIn marks) 0 (cells s)),
-              (
-                lane-passes s (length w₂) (z .words2),
-                (
-                  lane-passes s (length m₂) (z .marks2),
-                  (lane-passes s (length a₂) (z .aims2), (logs codes c, (logs moved m, (marks-pass, (aims-pass, tt))))),
-                ),
-              ),
-            ),
-          ),
-        ),
-      )
+      full-accepted Concentrate s (sizesOf w w₂ m₂ a₂) marks (ranks s marks) fitting ranks-good b codes moved
+      (omega (arith, side-known s side .most)) (omega (arith, side-known s side .most))
+    where
+      fitting : Fitting s (length marks) (length (ranks s marks)) (sizesOf w w₂ m₂ a₂)
+      fitting = record {
+        side = side;
+        words = z .words;
+        marks = long;
+        aims = length-entries (aimIn marks) 0 (cells s);
+        words2 = z .words2;
+        marks2 = z .marks2;
+        aims2 = z .aims2;
+      }
 
 -- a whole run of concentrate behind rank
 module _ {s : ℕ} {w m a w₂ m₂ a₂ codes moved : List ℕ} (b : JobBoard s w m a w₂ m₂ a₂ codes moved) where

@@ -3,8 +3,10 @@
 -- rank r stands by itself in cell r; and the list has exactly 7(s − 1) electronic moves and two by light.
 -- A cell's slots are its front lanes and its spare lanes. What concentrate promises of its lanes after n moves is `Stood Concentrate s n` (specs/Entries.antt), so each
 -- theorem here begins from that promise, and from marks and aims that were not refused, `Good` (what that is for concentrate says `RankedAims`).
+-- The last two, `cut-records` and `full-records`, begin from what an entry was lent alone: they say that it is accepted too.
 use Prim.Native.Nat.{ℕ, _-_, _*_, _≤_, _<_}
 use mathlib.Core.Path.{_≡_, refl, sym, ap, _∙_}
+use mathlib.Core.Bool.{true}
 use mathlib.Core.Logic.{_⊎_, inl, inr, ⊎-elim}
 use mathlib.Core.List.{List}
 use native.Mathlib.Nat.{sub-self}
@@ -15,17 +17,19 @@ use Rattle.array.specs.declared.moves.Way.{Way}
 use Rattle.answers.specs.declared.Answer.{Answer}
 use Rattle.laws.specs.Lent.{Lent, old}
 use Rattle.array.proofs.Board.{side-known}
-use Rattle.array.specs.Cells.{cells, group}
+use Rattle.array.specs.Cells.{isSide, cells, group}
 use Rattle.runs.specs.Runs.{moves, electronic, swaps}
+use Rattle.answers.specs.Answers.{acceptedBy}
+use Rattle.lists.specs.declared.Trip.{Trip}
 use Rattle.lists.specs.declared.Trip.the-variants.{Concentrate, Distribute}
-use Rattle.lists.specs.Lists.{totalMoves, concentrateRuns}
+use Rattle.lists.specs.Lists.{totalMoves, concentrateRuns, runsOf}
 use Rattle.lists.proofs.Counts.{concentrate-electronic, concentrate-swaps, concentrate-length}
 use Rattle.travel.specs.Travel.{toward, heading}
 use Rattle.travel.proofs.Collide.{at-the-end}
 use Rattle.travel.proofs.Range.{same-group, heading<}
 use Rattle.slots.specs.declared.Rec.{Rec}
 use Rattle.slots.specs.declared.Cell.{Cell}
-use Rattle.slots.specs.Cells.{nothing, empty, alone}
+use Rattle.slots.specs.Cells.{nothing, empty, alone, Sized}
 use Rattle.slots.specs.Lanes.{cellsAfter}
 use Rattle.course.specs.Showing.{contentOf, Shows}
 use Rattle.course.proofs.Holds.{Holds, hold0, hold1, hold2, holds-one}
@@ -33,11 +37,14 @@ use Rattle.course.proofs.Content.{Rising, Fits, At, content-holds}
 use Rattle.course.proofs.Course.{shows-same}
 use Rattle.course.proofs.Standing.{below, fits}
 use Rattle.marks.specs.Marks.{rankIn}
+use Rattle.refusals.specs.declared.Sizes.{Sizes}
 use Rattle.refusals.specs.Cases.{Good}
+use Rattle.refusals.specs.Cuts.{firstRuns}
 use Rattle.records.specs.Records.{markedCell, countIn, recordOf, cellOf}
 use Rattle.records.specs.Entries.{Stood, sizesOf, FullRun, CutRun}
-use Rattle.refusals.proofs.Verdicting.{FullKnown, full-known, cut-known}
-use Rattle.refusals.proofs.Aims.{RankedAims, Aimed, good-ranked, good-aimed}
+use Rattle.refusals.proofs.Verdicting.{Fitting}
+use Rattle.refusals.proofs.Accepting.{Asked, asked-good, full-accepted, cut-accepted}
+use Rattle.refusals.proofs.Aims.{RankedAims, Aimed, good-ranked, good-aimed, few-marked}
 use Rattle.records.proofs.Marked.{start-rises, start-inside, start-aims, start-rising, cell-of, rank-past, Found, found, first-rising, aims-rise, fits-alone}
 
 -- the slots of a cell: the front lanes, or the spare ones
@@ -61,6 +68,16 @@ pub record Present (s b : ℕ) (R : ℕ → Rec) (pos : ℕ → ℕ) (T : ℕ �
   pub single-in-front : (j : ℕ) → j < cells s → T j .front ≡ nothing → T j .spare ≡ nothing
   -- and each is in a cell of the board
   pub in-range : (r : ℕ) → r < b → pos r < cells s
+
+-- b records R, each alone in its cell pos, and every other cell empty
+pub record EachAlone (s b : ℕ) (R : ℕ → Rec) (pos : ℕ → ℕ) (T : ℕ → Cell) : Type 0 where
+  pub own-cell : (r : ℕ) → r < b → T (pos r) ≡ alone (R r)
+  pub else-empty : (j : ℕ) → j < cells s → ((r : ℕ) → r < b → pos r ≡ j → ⊥) → T j ≡ empty
+
+-- the cell in which record r ends: in concentrate cell r, in distribute the cell that its aim names
+abbrev pub lastCell : Trip → List ℕ → ℕ → ℕ
+lastCell Concentrate aims r = r
+lastCell Distribute aims r = getD aims r 0
 
 -- records of rising aims are told apart by them
 same-record : {b : ℕ} {R : ℕ → Rec} → Rising b R → (r r′ : ℕ) → r < b → r′ < b → R r ≡ R r′ → r ≡ r′
@@ -227,20 +244,53 @@ module _ {s : ℕ} (pos : 0 < s) {marks aims : List ℕ} (long : length marks �
       → (j : ℕ) → j < cells s → ((r : ℕ) → r < countIn s marks → getD aims r 0 ≡ j → ⊥) → T j ≡ empty
   distribute-empty o j u n = none-at (first-rising s words marks aims aimed) (aims-rise s words marks aims aimed) (arrived o) j u n
 
--- the same of what the entries promise: of the lanes of an accepted run, whole or up to a cut
-module _ (s : ℕ) (w m a w₂ m₂ a₂ : Lent) {r : Answer} where
-  pub cut-records : (cut : ℕ) → CutRun Concentrate s cut w m a w₂ m₂ a₂ r → r .number ≡ 0
-      → Present s (countIn s (old m)) (recordOf Concentrate s (old w) (old m) (old a)) (cellOf Concentrate s (old m) (old a) cut) (cellsAfter w m a w₂ m₂ a₂)
-  cut-records cut z h =
-      let k = cut-known Concentrate s cut (sizesOf (old w) (old w₂) (old m₂) (old a₂)) (old m) (old a) (z .answer) h in
-      present-after (side-known s (k .fits .side) .least) (k .fits .marks) (k .good) (old w) cut (z .lanes h)
+-- either trip, of lanes that show its records: they are present after n moves, and at the end each is alone in its cell
+module _ {s : ℕ} (pos : 0 < s) {marks aims : List ℕ} (long : length marks ≡ cells s) (words : List ℕ) where
+  trip-present : (trip : Trip) → Good trip s marks aims → (n : ℕ) {T : ℕ → Cell} → Stood trip s n words marks aims T
+      → Present s (countIn s marks) (recordOf trip s words marks aims) (cellOf trip s marks aims n) T
+  trip-present Concentrate good = present-after pos long good words
+  trip-present Distribute good = distribute-present pos long good words
 
-  module _ (codes moved : Lent) (z : FullRun Concentrate s w m a w₂ m₂ a₂ codes moved r) (h : r .number ≡ 0) where
-    known : FullKnown Concentrate s (sizesOf (old w) (old w₂) (old m₂) (old a₂)) (old m) (old a) (length (old codes)) (length (old moved))
-    known = full-known Concentrate s (sizesOf (old w) (old w₂) (old m₂) (old a₂)) (old m) (old a) (length (old codes)) (length (old moved)) (z .answer) h
+  trip-ends : (trip : Trip) → Good trip s marks aims → {T : ℕ → Cell} → Stood trip s (totalMoves s) words marks aims T
+      → EachAlone s (countIn s marks) (recordOf trip s words marks aims) (lastCell trip aims) T
+  trip-ends Concentrate good o = record {
+    own-cell = λ r h. end-alone pos long good words o r h (omega (arith, few-marked marks (cells s) (λ i l. good .marks-good i (omega arith))));
+    else-empty = λ j u n. end-empty pos long good words o j u (⊎-elim (λ l. absurd (n j l refl)) (λ l. l) (apart j (countIn s marks)));
+  }
+  trip-ends Distribute good o = record { own-cell = distribute-alone pos long good words o; else-empty = distribute-empty pos long good words o }
 
-    pub full-alone : (k : ℕ) → k < countIn s (old m) → k < cells s → cellsAfter w m a w₂ m₂ a₂ k ≡ alone (recordOf Concentrate s (old w) (old m) (old a) k)
-    full-alone = end-alone (side-known s (known .fits .side) .least) (known .fits .marks) (known .good) (old w) (z .lanes h)
+-- the same of what the entries promise: lent lanes of a board with the marks and aims that the trip asks for, a run is accepted, whole or up to a cut,
+-- and its records are there
+module _ (trip : Trip) (s : ℕ) (side : isSide s ≡ true) (w m a w₂ m₂ a₂ : Lent) (long : Sized (cells s) (old w) (old m) (old a) (old w₂) (old m₂) (old a₂))
+    (asked : Asked trip s (old m) (old a)) where
+  abbrev sizes : Sizes
+  sizes = sizesOf (old w) (old w₂) (old m₂) (old a₂)
 
-    pub full-empty : (j : ℕ) → j < cells s → countIn s (old m) ≤ j → cellsAfter w m a w₂ m₂ a₂ j ≡ empty
-    full-empty = end-empty (side-known s (known .fits .side) .least) (known .fits .marks) (known .good) (old w) (z .lanes h)
+  good : Good trip s (old m) (old a)
+  good = asked-good trip s (old m) (old a) side (long .marks) asked
+
+  fitting : Fitting s (length (old m)) (length (old a)) sizes
+  fitting = record {
+    side = side;
+    words = long .words;
+    marks = long .marks;
+    aims = long .aims;
+    words2 = long .words2;
+    marks2 = long .marks2;
+    aims2 = long .aims2;
+  }
+
+  pub cut-records : (cut : ℕ) {r : Answer} → cut ≤ totalMoves s → CutRun trip s cut w m a w₂ m₂ a₂ r
+      → (r .number ≡ 0) × Present s (countIn s (old m)) (recordOf trip s (old w) (old m) (old a)) (cellOf trip s (old m) (old a) cut) (cellsAfter w m a w₂ m₂ a₂)
+  cut-records cut {r} h z =
+      let accepts = cut-accepted trip s sizes (old m) (old a) fitting good (acceptedBy (firstRuns cut (runsOf trip s))) cut h in
+      let n : r .number ≡ 0 = ap (λ (x : Answer). x .number) (z .answer ∙ accepts) in
+      (n, trip-present (side-known s side .least) (long .marks) (old w) trip good cut (z .lanes n))
+
+  pub full-records : (codes moved : Lent) {r : Answer} → totalMoves s ≤ length (old codes) → totalMoves s ≤ length (old moved)
+      → FullRun trip s w m a w₂ m₂ a₂ codes moved r
+      → (r .number ≡ 0) × EachAlone s (countIn s (old m)) (recordOf trip s (old w) (old m) (old a)) (lastCell trip (old a)) (cellsAfter w m a w₂ m₂ a₂)
+  full-records codes moved {r} c d z =
+      let accepts = full-accepted trip s sizes (old m) (old a) fitting good (acceptedBy (runsOf trip s)) (length (old codes)) (length (old moved)) c d in
+      let n : r .number ≡ 0 = ap (λ (x : Answer). x .number) (z .answer ∙ accepts) in
+      (n, trip-ends (side-known s side .least) (long .marks) (old w) trip good (z .lanes n))

@@ -5,7 +5,7 @@ use mathlib.Core.Bool.{Bool, true, false, cond}
 use mathlib.Core.List.{List}
 use mathlib.Core.Logic.{_⊎_, inl, inr, ⊎-elim}
 use native.Mathlib.Omega.{arith}
-use borrow.Author.Tests.{eqb-true, eqb-false, eq-eqb, ne-eqb, lt-ltb, le-ltb}
+use borrow.Author.Tests.{eqb-true, eqb-false, eq-eqb, ne-eqb, le-ltb}
 use lib.ListN.{getD}
 use lib.Dec.{eqb}
 use Rattle.laws.proofs.Sums.{sum-add}
@@ -20,7 +20,7 @@ use Rattle.course.proofs.Content.{Rising, Fits, At, content-holds}
 use Rattle.marks.specs.Marks.{rankIn}
 use Rattle.refusals.specs.Cases.{marked}
 use Rattle.records.specs.Records.{markedCell}
-use Rattle.refusals.proofs.Aims.{RankedAims, Aimed}
+use Rattle.refusals.proofs.Aims.{RankedAims, Aimed, first-marked}
 
 module _ (marks : List ℕ) where
   -- ranks rise over marked cells
@@ -132,21 +132,18 @@ module _ (s : ℕ) (words marks aims : List ℕ) where
 
   -- the first cells of lanes that distribute takes
   module _ {b : ℕ} (z : Aimed s b marks aims) where
-    first-marked : (r : ℕ) → r < b → getD marks r 0 ≡ 1
-    first-marked r h = z .first r (omega (arith, z .few)) ∙ rw (lt-ltb r b h)
-
     pub aims-rise : (i j : ℕ) → i < j → j < b → getD aims i 0 < getD aims j 0
     aims-rise i zero l h = absurd (omega arith)
     aims-rise i (suc j) l h = ⊎-elim (λ e. rw e (z .rising j h)) (λ d. omega (arith, aims-rise i j (omega (arith, d)) (omega arith), z .rising j h)) (same? i j)
 
     pub first-rising : Rising b here
-    first-rising = record { marked = first-marked; rising = aims-rise }
+    first-rising = record { marked = first-marked z; rising = aims-rise }
 
     pub first-shows : {C : ℕ → Cell} → Cleared s words marks aims C → Shows s b here (λ r. r) C
     first-shows {C} e = alone-shows first-rising (fits-alone (λ i j u l g. omega arith)) (λ j u. ⊎-elim (taken j u) (unmarked j u) (apart j b))
       where
         taken : (j : ℕ) → j < cells s → j < b → Holds here (At b (λ r. r) j) (C j)
-        taken j u h = hold1 j (e .cells j u ∙ rw (eq-eqb (getD marks j 0) 1 (first-marked j h))) (h, refl) (λ k q. q .1)
+        taken j u h = hold1 j (e .cells j u ∙ rw (eq-eqb (getD marks j 0) 1 (first-marked z j h))) (h, refl) (λ k q. q .1)
 
         unmarked : (j : ℕ) → j < cells s → b ≤ j → Holds here (At b (λ r. r) j) (C j)
         unmarked j u h =

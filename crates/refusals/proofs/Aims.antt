@@ -1,6 +1,6 @@
 -- What aims that are not refused are: in concentrate the ranks, in distribute rising over the first cells, which are the marked ones.
 use Prim.Native.Nat.{ℕ, zero, suc, _+_, _-_, _≤_, _<_}
-use mathlib.Core.Path.{_≡_, refl, ap}
+use mathlib.Core.Path.{_≡_, refl, ap, _∙_}
 use mathlib.Core.Bool.{Bool, true, false, cond, not, _&&_, _||_}
 use mathlib.Core.Logic.{_⊎_, ⊎-elim}
 use mathlib.Core.List.{List}
@@ -45,13 +45,20 @@ pub record Aimed (s b : ℕ) (marks aims : List ℕ) : Type 0 where
   pub rising : (r : ℕ) → suc r < b → getD aims r 0 < getD aims (suc r) 0
   pub below : (r : ℕ) → r < b → getD aims r 0 < cells s
 
+pub first-marked : {s b : ℕ} {marks aims : List ℕ} → Aimed s b marks aims → (r : ℕ) → r < b → getD marks r 0 ≡ 1
+first-marked {b = b} z r h = z .first r (omega (arith, z .few)) ∙ rw (lt-ltb r b h)
+
+-- no more cells are marked than there are
+pub few-marked : (marks : List ℕ) (n : ℕ) → ((i : ℕ) → i < n → getD marks i 0 < 2) → rankIn marks n ≤ n
+few-marked marks zero h = omega arith
+few-marked marks (suc n) h = omega (arith, few-marked marks n (λ i l. h i (omega arith)), h n (omega arith))
+
 module _ (s : ℕ) (marks aims : List ℕ) (n : length marks ≡ cells s) (z : Good Distribute s marks aims) where
   small : (i : ℕ) → i < cells s → getD marks i 0 < 2
   small i h = z .marks-good i (omega arith)
 
   rank-few : (i : ℕ) → i ≤ cells s → rankIn marks i ≤ i
-  rank-few zero h = omega arith
-  rank-few (suc i) h = omega (arith, rank-few i (omega arith), small i (omega arith))
+  rank-few i h = few-marked marks i (λ k l. small k (omega arith))
 
   -- what is right with a marked cell
   record Right (i : ℕ) : Type 0 where

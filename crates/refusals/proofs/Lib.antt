@@ -1,3 +1,6 @@
+pub mod Accepting
 pub mod Aims
+pub mod FirstMoves
 pub mod Judged
+pub mod Order
 pub mod Verdicting

@@ -1,2 +1,4 @@
 pub mod Counts
 pub mod Entering
+pub mod Order
+pub mod Outcomes
