@@ -236,17 +236,18 @@ pub fn swap_lanes(
     if by_links(side, times) {
         let list = links();
         let front = trade_times(side, times, &list[..], words, marks, aims);
-        return front + trade_times(side, times, &list[..], spare_words, spare_marks, spare_aims);
+        let spare = trade_times(side, times, &list[..], spare_words, spare_marks, spare_aims);
+        return front + spare;
     }
     let none = [0u16; 1];
     let front = trade_times(side, times, &none[..0], words, marks, aims);
-    front
-        + trade_times(
-            side,
-            times,
-            &none[..0],
-            spare_words,
-            spare_marks,
-            spare_aims,
-        )
+    let spare = trade_times(
+        side,
+        times,
+        &none[..0],
+        spare_words,
+        spare_marks,
+        spare_aims,
+    );
+    front + spare
 }

@@ -2,7 +2,6 @@ use native.Mathlib.Omega.{arith}
 use Rattle.mesh.proofs.Walking.{ending-few, ending-some, ending-at}
 use Rattle.mesh.proofs.Ruling.{distance-few}
 use Rattle.mesh.proofs.Laying.{lands}
-use borrow.Author.Needs.{needs}
 use Rattle.mesh.proofs.lines.landing.Statement.{statement}
 use Rattle.mesh.proofs.lines.landing.Tie as tie
 
