@@ -10,8 +10,9 @@ use Rattle.laws.specs.Tables.{entries}
 abbrev pub keptAt : List ℕ → List ℕ → ℕ → ℕ
 keptAt marks lane i = cond (eqb (getD marks i 0) 1) (getD lane i 0) 0
 
+-- a lane with as many marks does so, and any other stays as it is
 abbrev pub kept : List ℕ → List ℕ → List ℕ
-kept marks lane = entries (keptAt marks lane) 0 (length lane)
+kept marks lane = cond (eqb (length marks) (length lane)) (entries (keptAt marks lane) 0 (length lane)) lane
 
 abbrev pub zeros : List ℕ → List ℕ
 zeros lane = entries (λ i. 0) 0 (length lane)

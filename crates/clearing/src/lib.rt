@@ -2,18 +2,11 @@
 ghost use mathlib.Core.Path.{_≡_};
 ghost use mathlib.Core.Bool.{cond};
 ghost use lib.Dec.{eqb};
-ghost use lib.ListN.{getD};
 ghost use Rattle.laws.specs.Lent.{old, new};
 ghost use Rattle.clearing.specs.Cleared.{kept, zeros};
 
-// The mark of cell i; 0 where there is no such cell.
-fn mark_at(marks: &[u8], i: usize) -> u8
-    ensures { λ r. ⌜ r ≡ getD (old marks) i 0 ⌝ }
-{
-    if i < marks.len() { marks[i] } else { 0 }
-}
-
-// What a cell of this mark keeps. It is chosen, and stored in every cell: a branch that hangs on the mark would often be guessed wrong.
+// What a cell of this mark keeps. It is stored in every cell, so that no branch hangs on the mark: on a crowded frame it would often be
+// guessed wrong.
 fn word_kept(mark: u8, word: u32) -> u32
     ensures { λ r. ⌜ r ≡ cond (eqb mark 1) word 0 ⌝ }
 {
@@ -26,24 +19,32 @@ fn aim_kept(mark: u8, aim: u16) -> u16
     if mark == 1 { aim } else { 0 }
 }
 
-// Unmarked cells hold 0.
+// Unmarked cells hold 0. A lane that has not as many marks stays as it is.
 pub fn keep_words(marks: &[u8], words: &mut [u32])
     ensures { λ _. ⌜ new words ≡ kept (old marks) (old words) ⌝ }
 {
+    let n = words.len();
+    if marks.len() != n {
+        return;
+    }
     let mut i: usize = 0;
-    while i < words.len() {
-        words[i] = word_kept(mark_at(marks, i), words[i]);
+    while i < n {
+        words[i] = word_kept(marks[i], words[i]);
         i += 1;
     }
 }
 
-// Unmarked cells hold 0.
+// Unmarked cells hold 0. A lane that has not as many marks stays as it is.
 pub fn keep_aims(marks: &[u8], aims: &mut [u16])
     ensures { λ _. ⌜ new aims ≡ kept (old marks) (old aims) ⌝ }
 {
+    let n = aims.len();
+    if marks.len() != n {
+        return;
+    }
     let mut i: usize = 0;
-    while i < aims.len() {
-        aims[i] = aim_kept(mark_at(marks, i), aims[i]);
+    while i < n {
+        aims[i] = aim_kept(marks[i], aims[i]);
         i += 1;
     }
 }

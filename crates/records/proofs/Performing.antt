@@ -52,13 +52,17 @@ fitting-sized f = record { words = f .words; marks = f .marks; aims = f .aims; w
 abbrev Made : Trip → ℕ → ℕ → List ℕ → List ℕ → List ℕ → (ℕ → Cell) → List ℕ → List ℕ → Type 0
 Made trip s n words marks aims T moved moved′ = Stood trip s n words marks aims T × (moved′ ≡ sets moved 0 (movedCounts trip s n marks aims))
 
+-- a lane with as many marks
+kept-lane : (m l : List ℕ) → length m ≡ length l → kept m l ≡ entries (keptAt m l) 0 (length l)
+kept-lane m l n = rw (eq-eqb (length m) (length l) n)
+
 -- lanes that were cleared
 pub cleared-by : (s : ℕ) {w m a w₂ m₂ a₂ w′ a′ w₂′ m₂′ a₂′ : List ℕ} → Sized (cells s) w m a w₂ m₂ a₂ → ((i : ℕ) → i < length m → getD m i 0 < 2)
     → w′ ≡ kept m w → a′ ≡ kept m a → w₂′ ≡ zeros w₂ → m₂′ ≡ zeros m₂ → a₂′ ≡ zeros a₂ → Cleared s w m a (cellAt w′ m a′ w₂′ m₂′ a₂′)
 cleared-by s {w} {m} {a} {w₂} {m₂} {a₂} {w′} {a′} {w₂′} {m₂′} {a₂′} z g p q p₂ q₂ o₂ = record { cells = λ j u. ⊎-elim (is j u) (isnt j u) (same? (getD m j 0) 1) }
   where
     keeps : (l l′ : List ℕ) → length l ≡ cells s → l′ ≡ kept m l → (j : ℕ) → j < cells s → getD l′ j 0 ≡ keptAt m l j
-    keeps l l′ n e j u = ap (λ (x : List ℕ). getD x j 0) e ∙ entry-at (keptAt m l) (length l) j 0 (omega arith)
+    keeps l l′ n e j u = ap (λ (x : List ℕ). getD x j 0) (e ∙ kept-lane m l (z .marks ∙ sym n)) ∙ entry-at (keptAt m l) (length l) j 0 (omega arith)
 
     zero-at : (l l′ : List ℕ) → length l ≡ cells s → l′ ≡ zeros l → (j : ℕ) → j < cells s → getD l′ j 0 ≡ 0
     zero-at l l′ n e j u = ap (λ (x : List ℕ). getD x j 0) e ∙ entry-at (λ i. 0) (length l) j 0 (omega arith)
@@ -131,9 +135,9 @@ performing trip s n {rs} {w} {m} {a} {w₂} {m₂} {a₂} {w′} {a′} {w₂′
 
     sized : Sized (cells s) w′ m a′ w₂′ m₂′ a₂′
     sized = record {
-      words = long (keptAt m w) w w′ (z .words) p;
+      words = long (keptAt m w) w w′ (z .words) (p ∙ kept-lane m w (z .marks ∙ sym (z .words)));
       marks = z .marks;
-      aims = long (keptAt m a) a a′ (z .aims) q;
+      aims = long (keptAt m a) a a′ (z .aims) (q ∙ kept-lane m a (z .marks ∙ sym (z .aims)));
       words2 = long (λ i. 0) w₂ w₂′ (z .words2) p₂;
       marks2 = long (λ i. 0) m₂ m₂′ (z .marks2) q₂;
       aims2 = long (λ i. 0) a₂ a₂′ (z .aims2) o₂;

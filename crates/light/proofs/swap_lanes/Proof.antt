@@ -35,18 +35,18 @@ add-result c = search needs
 
 same-length : tie.Need-same-length
 same-length c =
-    let tt = c .before .before .before .before .before .before .before .before .before .before .before .before .before .before .before .before .before in
-    tt .trade-times .kept .1 .1 .1 .0
+    let t = c .before .before .before .before .before .before .before .before .before .before .before .before .before .before .before .before .before in
+    t .trade-times .kept .1 .1 .1 .0
 
 same-length-2 : tie.Need-same-length-2
 same-length-2 c =
-    let tt = c .before .before .before .before .before .before .before .before .before .before .before .before .before .before .before .before .before in
-    tt .trade-times .kept .1 .1 .1 .1 .0
+    let t = c .before .before .before .before .before .before .before .before .before .before .before .before .before .before .before .before .before in
+    t .trade-times .kept .1 .1 .1 .1 .0
 
 same-length-3 : tie.Need-same-length-3
 same-length-3 c =
-    let tt = c .before .before .before .before .before .before .before .before .before .before .before .before .before .before .before .before .before in
-    tt .trade-times .kept .1 .1 .1 .1 .1 .0
+    let t = c .before .before .before .before .before .before .before .before .before .before .before .before .before .before .before .before .before in
+    t .trade-times .kept .1 .1 .1 .1 .1 .0
 
 same-length-4 : tie.Need-same-length-4
 same-length-4 c = c .before .before .before .before .before .before .trade-times2 .kept .1 .1 .1 .0
@@ -59,9 +59,9 @@ same-length-6 c = c .before .before .before .before .before .before .trade-times
 
 returns : tie.Need-returns
 returns c =
-    let tt = c .before .before .before .before .before .before in
-    let tt₂ = tt .before .before .before .before .before .before .before .before .before .before .before in
-    both-swapped (tt₂ .trade-times .ensures) (tt .trade-times2 .ensures) refl
+    let t = c .before .before .before .before .before .before in
+    let t₂ = t .before .before .before .before .before .before .before .before .before .before .before in
+    both-swapped (t₂ .trade-times .ensures) (t .trade-times2 .ensures) refl
 
 array-share-prefix-none : tie.Need-array-share-prefix-none
 array-share-prefix-none c = search needs
@@ -90,18 +90,18 @@ add-result-2 c = search needs
 
 same-length-7 : tie.Need-same-length-7
 same-length-7 c =
-    let tt = c .before .before .before .before .before .before .before .before .before .before .before .before .before .before .before .before .before in
-    tt .trade-times3 .kept .1 .1 .1 .0
+    let t = c .before .before .before .before .before .before .before .before .before .before .before .before .before .before .before .before .before in
+    t .trade-times3 .kept .1 .1 .1 .0
 
 same-length-8 : tie.Need-same-length-8
 same-length-8 c =
-    let tt = c .before .before .before .before .before .before .before .before .before .before .before .before .before .before .before .before .before in
-    tt .trade-times3 .kept .1 .1 .1 .1 .0
+    let t = c .before .before .before .before .before .before .before .before .before .before .before .before .before .before .before .before .before in
+    t .trade-times3 .kept .1 .1 .1 .1 .0
 
 same-length-9 : tie.Need-same-length-9
 same-length-9 c =
-    let tt = c .before .before .before .before .before .before .before .before .before .before .before .before .before .before .before .before .before in
-    tt .trade-times3 .kept .1 .1 .1 .1 .1 .0
+    let t = c .before .before .before .before .before .before .before .before .before .before .before .before .before .before .before .before .before in
+    t .trade-times3 .kept .1 .1 .1 .1 .1 .0
 
 same-length-10 : tie.Need-same-length-10
 same-length-10 c = c .before .before .before .before .before .before .trade-times4 .kept .1 .1 .1 .0
@@ -114,9 +114,9 @@ same-length-12 c = c .before .before .before .before .before .before .trade-time
 
 returns-2 : tie.Need-returns-2
 returns-2 c =
-    let tt = c .before .before .before .before .before .before in
-    let tt₂ = tt .before .before .before .before .before .before .before .before .before .before .before in
-    both-swapped (tt₂ .trade-times3 .ensures) (tt .trade-times4 .ensures) refl
+    let t = c .before .before .before .before .before .before in
+    let t₂ = t .before .before .before .before .before .before .before .before .before .before .before in
+    both-swapped (t₂ .trade-times3 .ensures) (t .trade-times4 .ensures) refl
 
 pub swap-lanes-spec : {M : Type 1} → statement M
 swap-lanes-spec =
