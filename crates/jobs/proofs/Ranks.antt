@@ -10,18 +10,18 @@ use borrow.Author.Tests.{eq-eqb, ne-eqb, lt-ltb}
 use Rattle.laws.specs.Sums.{sum}
 use Rattle.laws.proofs.Sums.{sum-cong, sum-nothing, one-more}
 use Rattle.marks.specs.Marks.{rankIn}
-use Rattle.jobtext.specs.Verdicts.{Marked}
-use Rattle.jobtext.specs.Lanes.{laid}
+use Rattle.jobtext.specs.Verdicts.{CellWord}
+use Rattle.jobtext.specs.Lanes.{withCells}
 use Rattle.jobtext.proofs.Accepted.{Rising, valueAt, absent, table}
 use Rattle.jobs.specs.Outputs.{homeOf}
 
 -- the mark that a list of marked cells gives cell k
-abbrev markAt : List Marked → ℕ → ℕ
+abbrev markAt : List CellWord → ℕ → ℕ
 markAt es k = valueAt (λ e. 1) es k 0
 
 module _ (end : ℕ) where
   -- the cell of rank r is the board's, and not below the first
-  pub home-in : (es : List Marked) (next r : ℕ) → r < length es → Rising next end es → (next ≤ homeOf es r) × (homeOf es r < end)
+  pub home-in : (es : List CellWord) (next r : ℕ) → r < length es → Rising next end es → (next ≤ homeOf es r) × (homeOf es r < end)
   unfolding Rising
   home-in [] next r h d = absurd (omega arith)
   home-in (e ∷ es) next zero h d = (d .0, d .1)
@@ -30,10 +30,10 @@ module _ (end : ℕ) where
       omega (arith, d .0)
 
   -- no cell below the first is marked
-  none-below : (es : List Marked) (n : ℕ) → Rising n end es → sum n (markAt es) ≡ 0
+  none-below : (es : List CellWord) (n : ℕ) → Rising n end es → sum n (markAt es) ≡ 0
   none-below es n d = sum-nothing n (markAt es) (λ k l. absent (λ e. 1) es n end k 0 l d)
 
-  rank-at : (es : List Marked) (next r : ℕ) → r < length es → Rising next end es → sum (homeOf es r) (markAt es) ≡ r
+  rank-at : (es : List CellWord) (next r : ℕ) → r < length es → Rising next end es → sum (homeOf es r) (markAt es) ≡ r
   unfolding Rising valueAt
   rank-at [] next r h d = absurd (omega arith)
   rank-at (e ∷ es) next zero h d = none-below (e ∷ es) (e .index) (omega arith, d .1, d .2)
@@ -42,7 +42,7 @@ module _ (end : ℕ) where
       one-more (homeOf es r) (e .index) (markAt es) (absent (λ x. 1) es (suc (e .index)) end (e .index) 0 (omega arith) (d .2))
       ∙ rw (lt-ltb (e .index) (homeOf es r) (omega arith), rank-at es (suc (e .index)) r (omega arith) (d .2)) (omega arith)
 
-  marked-all : (es : List Marked) (next : ℕ) → Rising next end es → sum end (markAt es) ≡ length es
+  marked-all : (es : List CellWord) (next : ℕ) → Rising next end es → sum end (markAt es) ≡ length es
   unfolding Rising valueAt
   marked-all [] next d = sum-nothing end (λ k. 0) (λ k l. refl)
   marked-all (e ∷ es) next d =
@@ -50,7 +50,7 @@ module _ (end : ℕ) where
       ∙ rw (lt-ltb (e .index) end (d .1), marked-all es (suc (e .index)) (d .2)) (omega arith)
 
   -- the value of the cell of rank r
-  value-at : (value : Marked → ℕ) (es : List Marked) (next r other : ℕ) → r < length es → Rising next end es → valueAt value es (homeOf es r) other ≡ getD (map value es) r 0
+  value-at : (value : CellWord → ℕ) (es : List CellWord) (next r other : ℕ) → r < length es → Rising next end es → valueAt value es (homeOf es r) other ≡ getD (map value es) r 0
   unfolding Rising valueAt
   value-at value [] next r other h d = absurd (omega arith)
   value-at value (e ∷ es) next zero other h d = rw (eq-eqb (e .index) (e .index) refl)
@@ -64,7 +64,7 @@ zeros (suc n) zero = refl
 zeros (suc n) (suc k) = zeros n k
 
 -- a mark is 0 or 1
-mark-small : (es : List Marked) (k : ℕ) → markAt es k < 2
+mark-small : (es : List CellWord) (k : ℕ) → markAt es k < 2
 unfolding valueAt
 mark-small [] k = omega arith
 mark-small (e ∷ es) k = go (eqb k (e .index)) (mark-small es k)
@@ -73,22 +73,22 @@ mark-small (e ∷ es) k = go (eqb k (e .index)) (mark-small es k)
     go true h = omega arith
     go false h = h
 
-ones : (es : List Marked) (r : ℕ) → r < length es → _≡_ {A = ℕ} (getD (map (λ e. 1) es) r 0) 1
+ones : (es : List CellWord) (r : ℕ) → r < length es → _≡_ {A = ℕ} (getD (map (λ e. 1) es) r 0) 1
 ones [] r h = absurd (omega arith)
 ones (e ∷ es) zero h = refl
 ones (e ∷ es) (suc r) h = ones es r (omega arith)
 
-pub laid-long : (value : Marked → ℕ) (es : List Marked) (lane : List ℕ) → length (laid value es lane) ≡ length lane
-unfolding laid
-laid-long value [] lane = refl
-laid-long value (e ∷ es) lane = laid-long value es (set lane (e .index) (value e)) ∙ length-set lane (e .index) (value e)
+pub with-cells-long : (value : CellWord → ℕ) (es : List CellWord) (lane : List ℕ) → length (withCells value es lane) ≡ length lane
+unfolding withCells
+with-cells-long value [] lane = refl
+with-cells-long value (e ∷ es) lane = with-cells-long value es (set lane (e .index) (value e)) ∙ length-set lane (e .index) (value e)
 
 -- the lanes of a job that is accepted
-abbrev pub laneIn : (Marked → ℕ) → List Marked → List ℕ
-laneIn value es = laid value es (replicate 4096 0)
+abbrev pub laneIn : (CellWord → ℕ) → List CellWord → List ℕ
+laneIn value es = withCells value es (replicate 4096 0)
 
-module _ (es : List Marked) (end : ℕ) (room : end ≤ 4096) (d : Rising 0 end es) where
-  lane-at : (value : Marked → ℕ) (k : ℕ) → getD (laneIn value es) k 0 ≡ valueAt value es k 0
+module _ (es : List CellWord) (end : ℕ) (room : end ≤ 4096) (d : Rising 0 end es) where
+  lane-at : (value : CellWord → ℕ) (k : ℕ) → getD (laneIn value es) k 0 ≡ valueAt value es k 0
   lane-at value k = table value es 0 end (replicate 4096 0) k d (rw length-replicate room) ∙ ap (valueAt value es k) (zeros 4096 k)
 
   -- the r-th marked cell has rank r, and there are as many ranks as marked cells
@@ -99,7 +99,7 @@ module _ (es : List Marked) (end : ℕ) (room : end ≤ 4096) (d : Rising 0 end 
   all-marked = sum-cong end (λ k l. lane-at (λ e. 1) k) ∙ marked-all end es 0 d
 
   -- it is marked, and holds its word
-  pub home-value : (value : Marked → ℕ) (r : ℕ) → r < length es → getD (laneIn value es) (homeOf es r) 0 ≡ getD (map value es) r 0
+  pub home-value : (value : CellWord → ℕ) (r : ℕ) → r < length es → getD (laneIn value es) (homeOf es r) 0 ≡ getD (map value es) r 0
   home-value value r h = lane-at value (homeOf es r) ∙ value-at end value es 0 r 0 h d
 
   pub home-marked : (r : ℕ) → r < length es → getD (laneIn (λ e. 1) es) (homeOf es r) 0 ≡ 1

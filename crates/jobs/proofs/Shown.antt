@@ -5,16 +5,16 @@ use mathlib.Core.List.{List, [], _∷_, map}
 use Prim.Native.Nat.{ℕ}
 use Rattle.texts.specs.Bytes.{bytes, same}
 use Rattle.texts.specs.Numbers.{digitsFrom, numberOf}
-use Rattle.texts.specs.Lines.{before, firstField, secondField, front, linesOf}
+use Rattle.texts.specs.Lines.{bytesBefore, firstField, secondField, withByte, linesOf}
 use Rattle.printing.specs.Printed.{digits, line, rows}
-use Rattle.jobtext.specs.Verdicts.{sideOf, lineEntry, also, cellsFrom, jobFrom, verdict}
-use Rattle.answertext.specs.Log.{column, totalsOf}
+use Rattle.jobtext.specs.Verdicts.{sideOf, markLine, also, cellsFrom, jobFrom, textVerdict}
+use Rattle.answertext.specs.Log.{columnSum, totalsOf}
 use Rattle.answertext.specs.Answers.{kindText, wayText, header, moveLine, allLine, recordLine, moveRow, recordRow, logText, refusedText}
 use Rattle.jobs.specs.Outputs.{outputOf}
 
 unfoldable pub written : String → List ℕ
-unfolding outputOf verdict jobFrom cellsFrom also linesOf front lineEntry sideOf firstField secondField before numberOf digitsFrom same logText header rows moveRow moveLine recordRow recordLine allLine totalsOf column line kindText wayText digits refusedText
-written t = outputOf (verdict (bytes t))
+unfolding outputOf textVerdict jobFrom cellsFrom also linesOf withByte markLine sideOf firstField secondField bytesBefore numberOf digitsFrom same logText header rows moveRow moveLine recordRow recordLine allLine totalsOf columnSum line kindText wayText digits refusedText
+written t = outputOf (textVerdict (bytes t))
 
 pub the-job :
     written "side\t2\n1\t70\n6\t71\n11\t72\n"

@@ -12,7 +12,7 @@ ghost use Prim.Native.Nat.{ℕ, _<_, _≤_};
 ghost use lib.ListN.{length, getD};
 ghost use Rattle.laws.specs.Lent.{old, new};
 ghost use Rattle.array.specs.Cells.{isSide, cells};
-ghost use Rattle.jobtext.specs.Verdicts.{verdict};
+ghost use Rattle.jobtext.specs.Verdicts.{textVerdict};
 ghost use Rattle.jobs.specs.Outputs.{outputOf};
 ghost use Rattle.jobs.specs.Filled.{Filled, refusalOf, printedOf};
 ghost use Rattle.jobs.specs.Inside.{JobBoard, Settled, JobLanes, lanesText};
@@ -125,7 +125,7 @@ fn solve(
 
 // All that the program does with its input.
 pub fn run(text: &[u8], out: &mut [u8; 196608]) -> usize
-    ensures { λ r. ⌜ Filled (old out) (outputOf (verdict (old text))) r (new out) ⌝ }
+    ensures { λ r. ⌜ Filled (old out) (outputOf (textVerdict (old text))) r (new out) ⌝ }
 {
     let mut words = [0u32; 4096];
     let mut marks = [0u8; 4096];

@@ -3,7 +3,7 @@ ghost use mathlib.Core.Path.{_≡_};
 ghost use Prim.Native.Nat.{_≤_};
 ghost use lib.ListN.{length};
 ghost use Rattle.texts.specs.Bytes.{same as sameBytes};
-ghost use Rattle.texts.specs.Lines.{before};
+ghost use Rattle.texts.specs.Lines.{bytesBefore};
 ghost use Rattle.texts.specs.Numbers.{digitsFrom, numberOf};
 
 // What a field is as a number.
@@ -14,7 +14,7 @@ pub enum Number {
 
 // How many bytes stand before the first b: all of them where there is none.
 pub fn bytes_before(s: &[u8], b: u8) -> usize
-    ensures { λ r. ⌜ r ≡ before b (now (s .entry)) ⌝ }
+    ensures { λ r. ⌜ r ≡ bytesBefore b (now (s .entry)) ⌝ }
     ensures { λ r. ⌜ r ≤ length (now (s .entry)) ⌝ }
 {
     let mut i = 0;
