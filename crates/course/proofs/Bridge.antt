@@ -25,9 +25,9 @@ use Rattle.course.proofs.Lines.{spot, onLine, atCell, own-spot, spot<, 
 abbrev pub headed : ℕ → Bool → ℕ → ℕ
 headed s low aim = cond low (aim % groups s) (aim / groups s % groups s)
 
--- how far off its place a record waits, where so many moves of the run are left
+-- how far off its place a record waits, where so many moves of the run remain
 abbrev pub waitFor : Trip → ℕ → ℕ
-waitFor trip left = cond (isLate trip) (left - 1) 0
+waitFor trip remaining = cond (isLate trip) (remaining - 1) 0
 
 -- of a place what tells how far along a way it is
 abbrev along : ℕ → Way → ℕ → ℕ

@@ -64,7 +64,7 @@ pub record Leg (s : ℕ) (forth back : List Run) (k k' : ℕ) (w : Way) (swaps :
   pub back-turn : turnAt back k' .swaps ≡ 2 - swaps
   pub goes-on : (r i : ℕ) → standsBy s forth (suc k) r i ≡ toward s w (heading s swaps r) (standsBy s forth k r i)
   pub goes-back : (r i : ℕ) → Starts s i r
-      → standsBy s forth k r i ≡ going s (opposite w) (turnAt back k' .left - 1) (heading s swaps i) (standsBy s forth (suc k) r i)
+      → standsBy s forth k r i ≡ going s (opposite w) (turnAt back k' .remaining - 1) (heading s swaps i) (standsBy s forth (suc k) r i)
 
 -- both are swaps, or both are electronic
 pub data StageBy (s : ℕ) (forth back : List Run) (k k' : ℕ) : Type 0 where
@@ -98,15 +98,15 @@ module _ (s : ℕ) (pos : 1 ≤ s) (rs : List Run) (shape : Concentrates s 0 non
         drop-cons (moves rs) k Swap inside ∙ ap (λ (m : Move). m ∷ drop (suc k) (moves rs)) (turn-step rs 0 k ∙ f) in
         subst (Concentrates s n c) here (from-start s pos (moves rs) shape k .rest) .0
 
-    wait : turnIn (backOnto rs []) 0 k' .left - 1 ≡ made w c
+    wait : turnIn (backOnto rs []) 0 k' .remaining - 1 ≡ made w c
     wait =
         let l : made w c ≡ doneIn rs k = subst (λ (m : Move). Like m c (doneIn rs k)) f (like rs none 0 k (omega arith) begun) in
-        omega (arith, undo .left)
+        omega (arith, undo .remaining)
 
     on : (r i : ℕ) → standsBy s rs (suc k) r i ≡ toward s w (heading s n r) (standsBy s rs k r i)
     on r i = travel-suc s rs k r i inside ∙ rw (f, turn-is)
 
-    back : (r i : ℕ) → Starts s i r → standsBy s rs k r i ≡ going s (opposite w) (turnIn (backOnto rs []) 0 k' .left - 1) (heading s n i) (standsBy s rs (suc k) r i)
+    back : (r i : ℕ) → Starts s i r → standsBy s rs k r i ≡ going s (opposite w) (turnIn (backOnto rs []) 0 k' .remaining - 1) (heading s n i) (standsBy s rs (suc k) r i)
     back r i o =
         let at = stood-at s pos (moves rs) shape k o in
         let next : standsBy s rs (suc k) r i ≡ spot s n (onto (Electronic w) c) i r = on r i ∙ ap (toward s w (heading s n r)) at ∙ spot-on s pos o n c w few in
