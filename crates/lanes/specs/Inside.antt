@@ -80,8 +80,8 @@ abbrev pub filling : JoinRule
 filling = record { joining = Fill; front = 0 }
 
 -- a group after the turn of the places at position p
-abbrev pub turned : ℕ → Way → Joining → ℕ → List ℕ → List ℕ
-turned s w j p l =
+abbrev pub afterTurn : ℕ → Way → Joining → ℕ → List ℕ → List ℕ
+afterTurn s w j p l =
     entries (λ i. cond (eqb (position w (row s i) (column s i)) p) (nextOf s w (record { joining = j; front = p }) l i) (getD l i 0)) 0 (groups s)
 
 -- the position whose word comes to position p of a line
@@ -138,7 +138,7 @@ pub record LineIn (x : Line) (n : ℕ) : Type 0 where
   pub apart : Apart (x .to) (x .from) (x .apart) (x .count)
 
 -- count places hold f 0, f 1, .. and the others what they held
-pub record Laid (first apart count : ℕ) (f : ℕ → ℕ) (l l′ : List ℕ) : Type 0 where
+pub record PlacesLaid (first apart count : ℕ) (f : ℕ → ℕ) (l l′ : List ℕ) : Type 0 where
   pub size : length l′ ≡ length l
   pub done : (k : ℕ) → k < count → getD l′ (first + k * apart) 0 ≡ f k
   pub kept : (i : ℕ) → ((k : ℕ) → k < count → i ≡ first + k * apart → ⊥) → getD l′ i 0 ≡ getD l i 0

@@ -10,7 +10,7 @@ ghost use lib.ListN.{length};
 ghost use lib.Dec.{ltb};
 ghost use Rattle.lanes.specs.Machine.{all};
 ghost use Rattle.lanes.specs.Stages.{stepsOn};
-ghost use Rattle.lanes.specs.Inside.{FitsBoard, Group, Moved, Places, Apart, Laid, joinFrom, joinOf, behindOf, alongOf, acrossOf, lineAt, LineIn, orderOf, turned, filling, stepped, steppedAll};
+ghost use Rattle.lanes.specs.Inside.{FitsBoard, Group, Moved, Places, Apart, PlacesLaid, joinFrom, joinOf, behindOf, alongOf, acrossOf, lineAt, LineIn, orderOf, afterTurn, filling, stepped, steppedAll};
 ghost use Rattle.lanes.specs.Runs.{running};
 
 // What the cells do in one move; the front is the position whose turn it is.
@@ -99,7 +99,7 @@ fn across(side: usize, way: Way) -> usize
 }
 
 // The word of a cell whose turn it is and that received x.
-fn joined(joining: Joining, own: u32, x: u32) -> u32
+fn join(joining: Joining, own: u32, x: u32) -> u32
     ensures { λ r. ⌜ r ≡ joinOf joining own x ⌝ }
 {
     match joining {
@@ -121,13 +121,13 @@ fn join_places(
     requires { ⌜ Places to apart count (length (now part)) ⌝ }
     requires { ⌜ Places from apart count (length (now part)) ⌝ }
     requires { ⌜ Apart to from apart count ⌝ }
-    ensures { λ _. ⌜ Laid to apart count (joinFrom joining to from apart (now (part .entry))) (now (part .entry)) (now (part .exit)) ⌝ }
+    ensures { λ _. ⌜ PlacesLaid to apart count (joinFrom joining to from apart (now (part .entry))) (now (part .entry)) (now (part .exit)) ⌝ }
 {
     let mut k = 0;
     while k < count {
         let i = to + k * apart;
         let j = from + k * apart;
-        let v = joined(joining, part[i], part[j]);
+        let v = join(joining, part[i], part[j]);
         part[i] = v;
         k += 1;
     }
@@ -135,7 +135,7 @@ fn join_places(
 
 fn join_line(part: &mut [u32], joining: Joining, line: Line)
     requires { ⌜ LineIn line (length (now part)) ⌝ }
-    ensures { λ _. ⌜ Laid (line .to) (line .apart) (line .count) (joinFrom joining (line .to) (line .from) (line .apart) (now (part .entry))) (now (part .entry)) (now (part .exit)) ⌝ }
+    ensures { λ _. ⌜ PlacesLaid (line .to) (line .apart) (line .count) (joinFrom joining (line .to) (line .from) (line .apart) (now (part .entry))) (now (part .entry)) (now (part .exit)) ⌝ }
 {
     join_places(part, joining, line.to, line.from, line.apart, line.count);
 }
@@ -143,7 +143,7 @@ fn join_line(part: &mut [u32], joining: Joining, line: Line)
 // So many places hold 0.
 fn clear_places(part: &mut [u32], to: usize, apart: usize, count: usize)
     requires { ⌜ Places to apart count (length (now part)) ⌝ }
-    ensures { λ _. ⌜ Laid to apart count (λ k. 0) (now (part .entry)) (now (part .exit)) ⌝ }
+    ensures { λ _. ⌜ PlacesLaid to apart count (λ k. 0) (now (part .entry)) (now (part .exit)) ⌝ }
 {
     let mut k = 0;
     while k < count {
@@ -179,7 +179,7 @@ fn line_at(side: usize, way: Way, p: usize) -> Line
 fn fill_line(part: &mut [u32], side: usize, way: Way, p: usize)
     requires { ⌜ Group side (length (now part)) ⌝ }
     requires { ⌜ p < side ⌝ }
-    ensures { λ _. ⌜ now (part .exit) ≡ turned side way Joining.Fill p (now (part .entry)) ⌝ }
+    ensures { λ _. ⌜ now (part .exit) ≡ afterTurn side way Joining.Fill p (now (part .entry)) ⌝ }
 {
     let next = along(side, way);
     let apart = across(side, way);

@@ -244,8 +244,8 @@ module _ (s : ℕ) {σ w : State ℕ} (h : Reduced s σ w) where
 abbrev came : State ℕ → State ℕ
 came w c d a b = sum (suc c) (λ i. sum (suc d) (w a b i))
 
-abbrev before : ℕ → State ℕ → State ℕ
-before s w c d a b = sum d (came w a b c) + sum c (λ i. sum (suc (s - 1)) (came w a b i))
+abbrev sumBefore : ℕ → State ℕ → State ℕ
+sumBefore s w c d a b = sum d (came w a b c) + sum c (λ i. sum (suc (s - 1)) (came w a b i))
 
 module _ (s : ℕ) {σ w : State ℕ} (h : Reduced s σ w) where
   R₁-is : Reduced s (R₁ s σ) (λ c d a b. sum (suc b) (w c d a))
@@ -275,30 +275,30 @@ module _ (s : ℕ) {σ w : State ℕ} (h : Reduced s σ w) where
         ap₂ minus (Z₅-is .is c d a b hc hd ha hb) (Y₄-is .is c d a b hc hd ha hb) ∙ minus-mod (sum a (λ i. sum (suc b) (came w c d i))) _;
   })
 
-  M₇-is : Reduced s (M₇ s σ) (before s w)
+  M₇-is : Reduced s (M₇ s σ) (sumBefore s w)
   unfolding M₇
   M₇-is = record {
     is = λ c d a b hc hd ha hb.
         let u = U₆-is .is a b c d ha hb hc hd in
         let y = Y₄-is .is a b c d ha hb hc hd in
         let t = A₃-is .is a b c d ha hb hc hd in
-        ap₂ minus (ap₂ plus u y ∙ plus-mod _ _ ∙ ap (λ n. n % (2 ^ 32)) (omega arith)) t ∙ minus-mod (before s w c d a b) (came w a b c d);
+        ap₂ minus (ap₂ plus u y ∙ plus-mod _ _ ∙ ap (λ n. n % (2 ^ 32)) (omega arith)) t ∙ minus-mod (sumBefore s w c d a b) (came w a b c d);
   }
 
-  M₈-is : Reduced s (M₈ s σ) (λ c d a b. before s w c d (s - 1) b)
+  M₈-is : Reduced s (M₈ s σ) (λ c d a b. sumBefore s w c d (s - 1) b)
   unfolding M₈
   M₈-is = copy-up s M₇-is
 
-  V₉-is : Reduced s (V₉ s σ) (λ c d a b. before s w c d (s - 1) (s - 1) + sum a (λ i. sum (suc (s - 1)) (w c d i)))
+  V₉-is : Reduced s (V₉ s σ) (λ c d a b. sumBefore s w c d (s - 1) (s - 1) + sum a (λ i. sum (suc (s - 1)) (w c d i)))
   unfolding V₉
-  V₉-is = copy-left s {w = λ c d a b. before s w c d (s - 1) b + sum a (λ i. sum (suc b) (w c d i))} (record {
+  V₉-is = copy-left s {w = λ c d a b. sumBefore s w c d (s - 1) b + sum a (λ i. sum (suc b) (w c d i))} (record {
     is = λ c d a b hc hd ha hb.
         ap₂ minus (ap₂ plus (M₈-is .is c d a b hc hd ha hb) (C₂-is .is c d a b hc hd ha hb) ∙ plus-mod _ _ ∙ ap (λ n. n % (2 ^ 32)) (omega arith))
         (R₁-is .is c d a b hc hd ha hb)
-        ∙ minus-mod (before s w c d (s - 1) b + sum a (λ i. sum (suc b) (w c d i))) (sum (suc b) (w c d a));
+        ∙ minus-mod (sumBefore s w c d (s - 1) b + sum a (λ i. sum (suc b) (w c d i))) (sum (suc b) (w c d a));
   })
 
-  P₉-is : Reduced s (P₉ s σ) (λ c d a b. sum (suc b) (w c d a) + (before s w c d (s - 1) (s - 1) + sum a (λ i. sum (suc (s - 1)) (w c d i))))
+  P₉-is : Reduced s (P₉ s σ) (λ c d a b. sum (suc b) (w c d a) + (sumBefore s w c d (s - 1) (s - 1) + sum a (λ i. sum (suc (s - 1)) (w c d i))))
   unfolding P₉
   P₉-is = record { is = λ c d a b hc hd ha hb. ap₂ plus (R₁-is .is c d a b hc hd ha hb) (V₉-is .is c d a b hc hd ha hb) ∙ plus-mod _ _ }
 

@@ -3,7 +3,7 @@ use native.Mathlib.Omega.{arith}
 use mathlib.Core.Path.{sym, _∙_}
 use Rattle.lanes.specs.declared.Joining.the-variants.{Fill}
 use Rattle.lanes.proofs.Spots.{behind-is, places, places-ready, along-few}
-use Rattle.lanes.proofs.Sweeping.{turned-received, turned-cleared}
+use Rattle.lanes.proofs.Sweeping.{after-turn-received, after-turn-cleared}
 use borrow.Author.Needs.{needs}
 use Rattle.lanes.proofs.steps.fill_line.Statement.{statement}
 use Rattle.lanes.proofs.steps.fill_line.Tie as tie
@@ -71,7 +71,7 @@ returns c =
     let a = b .before in
     let a₂ = a .before in
     let s = a₂ .before .before in
-    turned-received (s .args .side) (s .args .way) Fill (s .args .p) (f .from .given .0 .0) _ _ (s .args .part .now) _ (s .pre .0) (s .pre .1)
+    after-turn-received (s .args .side) (s .args .way) Fill (s .args .p) (f .from .given .0 .0) _ _ (s .args .part .now) _ (s .pre .0) (s .pre .1)
     (sym (b .behind .ensures) ∙ f .from .given .1) (a₂ .along .ensures) (a .across .ensures) (c .before .before .join-places .ensures)
 
 same-length-2 : tie.Need-same-length-2
@@ -84,7 +84,7 @@ returns-2 c =
     let a = b .before in
     let a₂ = a .before in
     let s = a₂ .before .before in
-    turned-cleared (s .args .side) (s .args .way) (s .args .p) _ _ (s .args .part .now) _ (s .pre .0) (s .pre .1)
+    after-turn-cleared (s .args .side) (s .args .way) (s .args .p) _ _ (s .args .part .now) _ (s .pre .0) (s .pre .1)
     (sym (b .behind .ensures) ∙ e .enum-told .given .1) (a₂ .along .ensures) (a .across .ensures) (c .before .before .clear-places .ensures)
 
 pub fill-line-spec : {M : Type 1} → statement M
