@@ -25,7 +25,7 @@ use mir.Val.{Fits}
 use Rattle.jobtext.proofs.Cells.{square-fits, cells-fit}
 use Rattle.jobtext.proofs.Accepted.{Rising, Known, known, few as few-cells}
 use Rattle.jobs.specs.Outputs.{homeOf, wordsIn, jobCounts, outputOf}
-use Rattle.jobs.specs.Filled.{Filled, printedOf, refusalOf}
+use Rattle.jobs.specs.Filled.{OutFilled, printedOf, refusalOf}
 use Rattle.jobs.specs.Inside.{Settled, JobLanes, lanesText}
 use Rattle.jobs.proofs.Ranks.{laneIn, with-cells-long, home-in, ranked, all-marked, home-value, home-marked, marks-small}
 use Rattle.jobs.proofs.Solved.{changing, counts-same}
@@ -42,7 +42,7 @@ lanes-text {s} {k} {w} {m} {w′} b l z =
     )
 
 pub solve-filled : {s k : ℕ} {w m w′ codes′ moved′ : List ℕ} → JobLanes s k w m → length w′ ≡ length w → Settled s w m w′ codes′ moved′ → {a : List ℕ} {r : ℕ} {b : List ℕ}
-    → Filled a (printedOf s k codes′ moved′ w′) r b → Filled a (lanesText s k w m) r b
+    → OutFilled a (printedOf s k codes′ moved′ w′) r b → OutFilled a (lanesText s k w m) r b
 solve-filled l e z f = rw (lanes-text l e z) at f
 
 -- a board's lane fits 4,096 cells
@@ -143,7 +143,7 @@ module _ {w₀ w m₀ m : List ℕ} {job : Job} where
   marks-room text z s k e = omega (arith, length-take (cells s) m, ready-lanes text z s k e .marks-long)
 
   pub ready-filled : (text : List ℕ) → JobRead (textVerdict text) w₀ w m₀ m job → (s k : ℕ) → job ≡ Ready s k → {a : List ℕ} {r : ℕ} {b : List ℕ}
-      → Filled a (lanesText s k (take (cells s) w) (take (cells s) m)) r b → Filled a (outputOf (textVerdict text)) r b
+      → OutFilled a (lanesText s k (take (cells s) w) (take (cells s) m)) r b → OutFilled a (outputOf (textVerdict text)) r b
   ready-filled text z s k e f = rw (lanes-of (textVerdict text) (known text) z s k e .1) at f
 
   refused-of : (v : TextVerdict) → JobRead v w₀ w m₀ m job → (n p : ℕ) → job ≡ Refused n p → refusalOf job ≡ outputOf v
@@ -152,5 +152,5 @@ module _ {w₀ w m₀ m : List ℕ} {job : Job} where
   refused-of (noJob a b) z n p e = rw (z .answer)
 
   pub refused-filled : (text : List ℕ) → JobRead (textVerdict text) w₀ w m₀ m job → (n p : ℕ) → job ≡ Refused n p → {a : List ℕ} {r : ℕ} {b : List ℕ}
-      → Filled a (refusalOf job) r b → Filled a (outputOf (textVerdict text)) r b
+      → OutFilled a (refusalOf job) r b → OutFilled a (outputOf (textVerdict text)) r b
   refused-filled text z n p e f = rw (refused-of (textVerdict text) z n p e) at f

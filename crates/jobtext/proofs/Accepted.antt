@@ -14,7 +14,7 @@ use Rattle.texts.specs.declared.read.Number.the-variants.{Of, Not}
 use Rattle.array.specs.Cells.{isSide, cells}
 use Rattle.jobtext.specs.Lanes.{withCells}
 use Rattle.jobtext.specs.declared.MarkLine.{MarkLine}
-use Rattle.jobtext.specs.declared.MarkLine.the-variants.{Cell, Malformed}
+use Rattle.jobtext.specs.declared.MarkLine.the-variants.{Mark, Malformed}
 use Rattle.jobtext.proofs.Entries.{mark-in-order}
 use lib.Seq.{getD-set-same, getD-set-other, take-all, length-take-le}
 
@@ -39,7 +39,7 @@ sound s next k (unended ∷ ls) = tt
 sound s next k (ended line ∷ ls) = go (markLine next (cells s) line) refl (λ i. sound s (suc i) (suc k) ls)
   where
     go : (e : MarkLine) → markLine next (cells s) line ≡ e → ((i : ℕ) → Sound s (suc i) (cellsFrom s (suc i) (suc k) ls)) → Sound s next (cellsFrom s next k (ended line ∷ ls))
-    go (Cell i w) q ih = rw (q, cellsFrom) (sound-also s next i w _ (mark-in-order next (cells s) line i w q) (ih i))
+    go (Mark i w) q ih = rw (q, cellsFrom) (sound-also s next i w _ (mark-in-order next (cells s) line i w q) (ih i))
     go Malformed q ih = rw (q, cellsFrom) tt
 
 -- The table of an accepted job: the value of each marked cell at its index, and what was there elsewhere.

@@ -16,7 +16,7 @@ use Rattle.jobtext.specs.Verdicts.{markLine, CellWord, TextVerdict, isJo
 use Rattle.array.specs.Cells.{cells}
 use Rattle.jobtext.specs.Lanes.{jobOf, withCells, WithCells, CellsRead}
 use Rattle.jobtext.specs.declared.MarkLine.{MarkLine}
-use Rattle.jobtext.specs.declared.MarkLine.the-variants.{Cell, Malformed}
+use Rattle.jobtext.specs.declared.MarkLine.the-variants.{Mark, Malformed}
 use Rattle.jobtext.specs.declared.Job.{Job}
 use Rattle.jobtext.specs.declared.Job.the-variants.{Ready, Refused}
 use Rattle.texts.proofs.Reading.{rest}
@@ -45,7 +45,7 @@ module _ (s next k : ℕ) (t : List ℕ) where
     unfolding cellsFrom
     by-malformed e = rw (lines-ended t h, e, cellsFrom)
 
-    by-cell : (i w : ℕ) → markLine next (cells s) (take (bytesBefore lf t) t) ≡ Cell i w → cellsFrom s next k (linesOf t) ≡ also i w (cellsFrom s (suc i) (suc k) (linesOf (drop (suc (bytesBefore lf t)) t)))
+    by-cell : (i w : ℕ) → markLine next (cells s) (take (bytesBefore lf t) t) ≡ Mark i w → cellsFrom s next k (linesOf t) ≡ also i w (cellsFrom s (suc i) (suc k) (linesOf (drop (suc (bytesBefore lf t)) t)))
     unfolding cellsFrom
     by-cell i w e = rw (lines-ended t h, e, cellsFrom)
 
@@ -138,7 +138,7 @@ module _ {text : List ℕ} {side : ℕ} {words₀ marks₀ words marks : List �
       pub cells-malformed : r ≡ Malformed → Done text side words₀ marks₀ words marks (Refused 8 line)
       cells-malformed m = refuse (by-malformed side next line (drop at text) has (sym first ∙ m))
 
-      module _ (i w : ℕ) (c : r ≡ Cell i w) where
+      module _ (i w : ℕ) (c : r ≡ Mark i w) where
         pub cell-in-order : (next ≤ i) × (i < cells side)
         cell-in-order = mark-in-order next (cells side) (take end (take (length text - at) (drop at text))) i w (sym r-read ∙ c)
 
@@ -158,7 +158,7 @@ module _ {text : List ℕ} {side : ℕ} {words₀ marks₀ words marks : List �
             step = by-cell side next line (drop at text) has i w (sym first ∙ c) ∙ rw (← at-end) (simp (drop-drop, add-one))
 
 -- the index of a marked cell is one of the 4,096
-module _ (next s : ℕ) (line : List ℕ) (r : MarkLine) (r-read : r ≡ markLine next (cells s) line) (i w : ℕ) (c : r ≡ Cell i w) (room : cells s ≤ 4096) where
+module _ (next s : ℕ) (line : List ℕ) (r : MarkLine) (r-read : r ≡ markLine next (cells s) line) (i w : ℕ) (c : r ≡ Mark i w) (room : cells s ≤ 4096) where
   pub cell-inside : i < 4096
   cell-inside = omega (arith, mark-in-order next (cells s) line i w (sym r-read ∙ c))
 

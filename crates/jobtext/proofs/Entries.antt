@@ -14,7 +14,7 @@ use Rattle.texts.specs.Lines.{bytesBefore, firstField, secondField}
 use Rattle.texts.specs.Numbers.{numberOf}
 use Rattle.jobtext.specs.Verdicts.{sideIf, sideOf, pair, inOrder, markLine}
 use Rattle.jobtext.specs.declared.MarkLine.{MarkLine}
-use Rattle.jobtext.specs.declared.MarkLine.the-variants.{Cell, Malformed}
+use Rattle.jobtext.specs.declared.MarkLine.the-variants.{Mark, Malformed}
 use Rattle.texts.specs.declared.read.Number.{Number}
 use Rattle.texts.specs.declared.read.Number.the-variants.{Of, Not}
 
@@ -68,7 +68,7 @@ module _ (line : List ℕ) (at : ℕ) (tab-at : at ≡ bytesBefore tab line) whe
         mark-no-word f = rw (← first, ← n-read, ← second, ← m-read, e, f)
 
         module _ (w : ℕ) (f : m ≡ Of w) where
-          ordered : cond (leb next i && ltb i end) (Cell i w) Malformed ≡ markLine next end line
+          ordered : cond (leb next i && ltb i end) (Mark i w) Malformed ≡ markLine next end line
           unfolding markLine
           ordered = rw (← first, ← n-read, ← second, ← m-read, e, f)
 
@@ -78,19 +78,19 @@ module _ (line : List ℕ) (at : ℕ) (tab-at : at ≡ bytesBefore tab line) whe
           pub mark-high : next ≤ i → end ≤ i → Malformed ≡ markLine next end line
           mark-high l u = rw (le-leb next i l, le-ltb i end u) at ordered
 
-          pub mark-cell : next ≤ i → i < end → Cell i w ≡ markLine next end line
+          pub mark-cell : next ≤ i → i < end → Mark i w ≡ markLine next end line
           mark-cell l u = rw (le-leb next i l, lt-ltb i end u) at ordered
 
 -- the cell of a line is in order
-pub mark-in-order : (next end : ℕ) (line : List ℕ) (i w : ℕ) → markLine next end line ≡ Cell i w → (next ≤ i) × (i < end)
+pub mark-in-order : (next end : ℕ) (line : List ℕ) (i w : ℕ) → markLine next end line ≡ Mark i w → (next ≤ i) × (i < end)
 unfolding markLine
 mark-in-order next end line i w e = go (pair (numberOf (firstField line)) (numberOf (secondField line))) e
   where
-    go : (p : MarkLine) → inOrder next end p ≡ Cell i w → (next ≤ i) × (i < end)
+    go : (p : MarkLine) → inOrder next end p ≡ Mark i w → (next ≤ i) × (i < end)
     go Malformed q = let z : _≡_ {A = ℕ} 0 1 = cc in absurd (omega arith)
-    go (Cell j v) q = by (leb next j) (ltb j end) refl refl q
+    go (Mark j v) q = by (leb next j) (ltb j end) refl refl q
       where
-        by : (s t : Bool) → leb next j ≡ s → ltb j end ≡ t → cond (s && t) (Cell j v) Malformed ≡ Cell i w → (next ≤ i) × (i < end)
+        by : (s t : Bool) → leb next j ≡ s → ltb j end ≡ t → cond (s && t) (Mark j v) Malformed ≡ Mark i w → (next ≤ i) × (i < end)
         by true true a b r = let x : j ≡ i = cc in omega (arith, borrow.Author.Tests.leb-true next j a, borrow.Author.Tests.ltb-true j end b)
         by true false a b r = let z : _≡_ {A = ℕ} 0 1 = cc in absurd (omega arith)
         by false t a b r = let z : _≡_ {A = ℕ} 0 1 = cc in absurd (omega arith)

@@ -11,7 +11,7 @@ use Rattle.texts.specs.Lines.{firstField, secondField, TextLine, ended, unended
 use Rattle.texts.specs.declared.read.Number.{Number}
 use Rattle.texts.specs.declared.read.Number.the-variants.{Of, Not}
 use Rattle.jobtext.specs.declared.MarkLine.{MarkLine}
-use Rattle.jobtext.specs.declared.MarkLine.the-variants.{Cell, Malformed}
+use Rattle.jobtext.specs.declared.MarkLine.the-variants.{Mark, Malformed}
 
 abbrev pub sideIf : Bool → Number → Number
 sideIf named n = cond named n Not
@@ -22,12 +22,12 @@ sideOf line = sideIf (same (firstField line) (bytes "side")) (numberOf (secondFi
 
 -- a later line is two numbers: index, word
 abbrev pub pair : Number → Number → MarkLine
-pair (Of i) (Of w) = Cell i w
+pair (Of i) (Of w) = Mark i w
 pair (Of i) Not = Malformed
 pair Not m = Malformed
 
 abbrev pub inOrder : ℕ → ℕ → MarkLine → MarkLine
-inOrder next end (Cell i w) = cond (leb next i && ltb i end) (Cell i w) Malformed
+inOrder next end (Mark i w) = cond (leb next i && ltb i end) (Mark i w) Malformed
 inOrder next end Malformed = Malformed
 
 -- the marked cell that a later line gives, where its index is at least next and below end
@@ -56,7 +56,7 @@ cellsFrom s next k [] = isJob s []
 cellsFrom s next k (unended ∷ ls) = noJob 8 k
 cellsFrom s next k (ended line ∷ ls) =
     elim (markLine next (cells s) line) [
-      | Cell i w ↦ also i w (cellsFrom s (suc i) (suc k) ls)
+      | Mark i w ↦ also i w (cellsFrom s (suc i) (suc k) ls)
       | Malformed ↦ noJob 8 k
     ]
 

@@ -12,7 +12,7 @@ ghost use Rattle.jobtext.specs.Lanes.{CellsRead, JobRead};
 
 // What a line after the first gives: a marked cell.
 pub enum MarkLine {
-    Cell { index: usize, word: u32 },
+    Mark { index: usize, word: u32 },
     Malformed,
 }
 
@@ -58,7 +58,7 @@ fn read_mark(line: &[u8], next: usize, end: usize) -> MarkLine
     if end <= index {
         return MarkLine::Malformed;
     }
-    MarkLine::Cell { index, word }
+    MarkLine::Mark { index, word }
 }
 
 // Reads the lines after the first into lanes, from what the lanes hold.
@@ -77,7 +77,7 @@ fn read_cells(text: &[u8], side: usize, words: &mut [u32; 4096], marks: &mut [u8
         if end == rest.len() {
             return Job::Refused(8, line);
         }
-        let MarkLine::Cell { index, word } = read_mark(&rest[..end], next, cells) else {
+        let MarkLine::Mark { index, word } = read_mark(&rest[..end], next, cells) else {
             return Job::Refused(8, line);
         };
         words[index] = word;

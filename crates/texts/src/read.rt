@@ -56,11 +56,11 @@ pub fn number_of(field: &[u8]) -> Number
             return Number::Not;
         }
     }
-    digits(field)
+    digits_from(field)
 }
 
 // The number that digits write, read from the left.
-fn digits(field: &[u8]) -> Number
+fn digits_from(field: &[u8]) -> Number
     ensures { λ r. ⌜ r ≡ digitsFrom 0 (now (field .entry)) ⌝ }
 {
     let mut n: u64 = 0;
