@@ -16,13 +16,13 @@ use Rattle.array.specs.declared.moves.Way.the-variants.{Right, Left, Up, Down}
 use Rattle.array.specs.Cells.{groups, row, column}
 use Rattle.lanes.specs.declared.Joining.{Joining}
 use Rattle.lanes.specs.declared.Joining.the-variants.{Add, Copy, Fill}
-use Rattle.lanes.specs.declared.steps.Line.{Line}
+use Rattle.lanes.specs.declared.steps.LinePlaces.{LinePlaces}
 use Rattle.lanes.specs.declared.steps.JoinRule.{JoinRule}
 use Rattle.lanes.specs.declared.steps.Source.{Source}
 use Rattle.lanes.specs.declared.steps.Source.the-variants.{At, Nothing}
 use Rattle.sums.specs.Sums.{plus}
 use Rattle.lanes.specs.Stages.{front, copy, filled, position}
-use Rattle.lanes.specs.Inside.{Group, sourceOf, wordAt, nextOf, stepped, filling, afterTurn, behindOf, alongOf, acrossOf, noLine, lineFrom, lineAt, orderOf, PlacesLaid, joinOf, joinFrom}
+use Rattle.lanes.specs.Inside.{Group, sourceOf, wordAt, nextOf, stepped, filling, afterTurn, behindOf, placeGap, lineGap, noLine, lineFrom, lineAt, orderOf, PlacesLaid, joinOf, joinFrom}
 use Rattle.lanes.specs.Runs.{ruleOf}
 use Rattle.lanes.proofs.Lines.{front-now, front-not}
 use Rattle.lanes.proofs.Spots.{spot, lineOf, spot-is, spot-line, spot-position, spot-in, line-in, position-in, behind-is, placed, source-is}
@@ -60,7 +60,7 @@ module _ (s : ℕ) (w : Way) (j : Joining) (p : ℕ) (l : List ℕ) where
         go i u true x = rw x (here i u (eqb-true (pos s w i) p x))
         go i u false x = rw x (there i u (eqb-false (pos s w i) p x))
 
-    laid-after-turn : (f : ℕ → ℕ) → p < s → PlacesLaid (p * alongOf s w) (acrossOf s w) s f l l′
+    laid-after-turn : (f : ℕ → ℕ) → p < s → PlacesLaid (p * placeGap s w) (lineGap s w) s f l l′
         → ((k : ℕ) → k < s → f k ≡ nextOf s w (record { joining = j; front = p }) l (spot s w k p)) → l′ ≡ afterTurn s w j p l
     laid-after-turn f h z same = after-turn-by (z .size) here there
       where
@@ -74,18 +74,18 @@ module _ (s : ℕ) (w : Way) (j : Joining) (p : ℕ) (l : List ℕ) where
         there : (i : ℕ) → i < groups s → (pos s w i ≡ p → ⊥) → getD l′ i 0 ≡ getD l i 0
         there i u x = z .kept i (λ k v e. x (ap (pos s w) e ∙ spot-position v h w))
 
-    pub after-turn-joined : (q : ℕ) → p < s → behindOf s w p ≡ At q → PlacesLaid (p * alongOf s w) (acrossOf s w) s (joinFrom j (p * alongOf s w) (q * alongOf s w) (acrossOf s w) l) l l′
+    pub after-turn-joined : (q : ℕ) → p < s → behindOf s w p ≡ At q → PlacesLaid (p * placeGap s w) (lineGap s w) s (joinFrom j (p * placeGap s w) (q * placeGap s w) (lineGap s w) l) l l′
         → l′ ≡ afterTurn s w j p l
     after-turn-joined q h e z = laid-after-turn _ h z (λ k u.
         sym (next-at k u h ∙ ap (λ b. ruleOf j p p (getD l (spot s w k p) 0) (wordAt l (placed (spot s w k) b))) e ∙ rule-now j p _ _))
 
 -- the same as the code works it out
 pub after-turn-received : (s : ℕ) (w : Way) (j : Joining) (p q next apart : ℕ) (l l′ : List ℕ) → Group s (length l) → p < s → behindOf s w p ≡ At q
-    → next ≡ alongOf s w → apart ≡ acrossOf s w → PlacesLaid (p * next) apart s (joinFrom j (p * next) (q * next) apart l) l l′ → l′ ≡ afterTurn s w j p l
+    → next ≡ placeGap s w → apart ≡ lineGap s w → PlacesLaid (p * next) apart s (joinFrom j (p * next) (q * next) apart l) l l′ → l′ ≡ afterTurn s w j p l
 after-turn-received s w j p q next apart l l′ g h e x y z = after-turn-joined s w j p l l′ g q h e (rw (x, y) at z)
 
 pub after-turn-cleared : (s : ℕ) (w : Way) (p next apart : ℕ) (l l′ : List ℕ) → Group s (length l) → p < s → behindOf s w p ≡ Nothing
-    → next ≡ alongOf s w → apart ≡ acrossOf s w → PlacesLaid (p * next) apart s (λ k. 0) l l′ → l′ ≡ afterTurn s w Fill p l
+    → next ≡ placeGap s w → apart ≡ lineGap s w → PlacesLaid (p * next) apart s (λ k. 0) l l′ → l′ ≡ afterTurn s w Fill p l
 after-turn-cleared s w p next apart l l′ g h e x y z = laid-after-turn s w Fill p l l′ g (λ k. 0) h (rw (x, y) at z) (λ k u.
     sym (next-at s w Fill p l k u h ∙ ap (λ b. ruleOf Fill p p (getD l (spot s w k p) 0) (wordAt l (placed (spot s w k) b))) e))
 
@@ -110,11 +110,11 @@ laid-nothing : {first apart : ℕ} {f : ℕ → ℕ} {l l′ : List ℕ} → Pla
 laid-nothing {l = l} {l′ = l′} z = ext-getD 0 l′ l (z .size) (λ i u. z .kept i (λ k v. absurd (omega arith)))
 
 -- a front's line
-pub after-turn-line : (s : ℕ) (w : Way) (p : ℕ) (l l′ : List ℕ) (op : ℕ → ℕ → ℕ) (j : Joining) (x : Line) → ruleOf j ≡ front op → Group s (length l) → x ≡ lineAt s w p
+pub after-turn-line : (s : ℕ) (w : Way) (p : ℕ) (l l′ : List ℕ) (op : ℕ → ℕ → ℕ) (j : Joining) (x : LinePlaces) → ruleOf j ≡ front op → Group s (length l) → x ≡ lineAt s w p
     → PlacesLaid (x .to) (x .apart) (x .count) (joinFrom j (x .to) (x .from) (x .apart) l) l l′ → l′ ≡ afterTurn s w j p l
 after-turn-line s w p l l′ op j x r g y z = go (ltb p s) refl (rw y at z)
   where
-    Lays : Line → Type 0
+    Lays : LinePlaces → Type 0
     Lays x = PlacesLaid (x .to) (x .apart) (x .count) (joinFrom j (x .to) (x .from) (x .apart) l) l l′
 
     from : (b : Source) → p < s → behindOf s w p ≡ b → Lays (lineFrom s w p b) → l′ ≡ afterTurn s w j p l

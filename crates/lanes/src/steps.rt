@@ -10,7 +10,7 @@ ghost use lib.ListN.{length};
 ghost use lib.Dec.{ltb};
 ghost use Rattle.lanes.specs.Machine.{all};
 ghost use Rattle.lanes.specs.Stages.{stepsOn};
-ghost use Rattle.lanes.specs.Inside.{FitsBoard, Group, Moved, Places, Apart, PlacesLaid, joinFrom, joinOf, behindOf, alongOf, acrossOf, lineAt, LineIn, orderOf, afterTurn, filling, stepped, steppedAll};
+ghost use Rattle.lanes.specs.Inside.{FitsBoard, Group, Moved, Places, Apart, PlacesLaid, joinFrom, joinOf, behindOf, placeGap, lineGap, lineAt, LineIn, orderOf, afterTurn, filling, stepped, steppedAll};
 ghost use Rattle.lanes.specs.Runs.{running};
 
 // What the cells do in one move; the front is the position whose turn it is.
@@ -26,14 +26,14 @@ pub enum Source {
 }
 
 // The places that take a word in a move, and those from which it comes: the first of each, how far apart they are, and how many.
-pub struct Line {
+pub struct LinePlaces {
     pub to: usize,
     pub from: usize,
     pub apart: usize,
     pub count: usize,
 }
 
-const NO_LINE: Line = Line {
+const NO_LINE: LinePlaces = LinePlaces {
     to: 0,
     from: 0,
     apart: 1,
@@ -75,8 +75,8 @@ fn behind(side: usize, way: Way, p: usize) -> Source
 }
 
 // How far apart the places of a line are in a stretch.
-fn along(side: usize, way: Way) -> usize
-    ensures { λ r. ⌜ r ≡ alongOf side way ⌝ }
+fn place_gap(side: usize, way: Way) -> usize
+    ensures { λ r. ⌜ r ≡ placeGap side way ⌝ }
 {
     match way {
         Way::Right => 1,
@@ -87,8 +87,8 @@ fn along(side: usize, way: Way) -> usize
 }
 
 // How far apart the lines are.
-fn across(side: usize, way: Way) -> usize
-    ensures { λ r. ⌜ r ≡ acrossOf side way ⌝ }
+fn line_gap(side: usize, way: Way) -> usize
+    ensures { λ r. ⌜ r ≡ lineGap side way ⌝ }
 {
     match way {
         Way::Right => side,
@@ -133,7 +133,7 @@ fn join_places(
     }
 }
 
-fn join_line(part: &mut [u32], joining: Joining, line: Line)
+fn join_line(part: &mut [u32], joining: Joining, line: LinePlaces)
     requires { ⌜ LineIn line (length (now part)) ⌝ }
     ensures { λ _. ⌜ PlacesLaid (line .to) (line .apart) (line .count) (joinFrom joining (line .to) (line .from) (line .apart) (now (part .entry))) (now (part .entry)) (now (part .exit)) ⌝ }
 {
@@ -154,18 +154,18 @@ fn clear_places(part: &mut [u32], to: usize, apart: usize, count: usize)
 }
 
 // The places at position p and those behind them; none where no word comes.
-fn line_at(side: usize, way: Way, p: usize) -> Line
+fn line_at(side: usize, way: Way, p: usize) -> LinePlaces
     requires { ⌜ (1 ≤ side) × (side ≤ 8) ⌝ }
     ensures { λ r. ⌜ r ≡ lineAt side way p ⌝ }
 {
     if side <= p {
         return NO_LINE;
     }
-    let next = along(side, way);
-    let apart = across(side, way);
+    let next = place_gap(side, way);
+    let apart = line_gap(side, way);
     let from = behind(side, way, p);
     match from {
-        Source::At(q) => Line {
+        Source::At(q) => LinePlaces {
             to: p * next,
             from: q * next,
             apart: apart,
@@ -181,8 +181,8 @@ fn fill_line(part: &mut [u32], side: usize, way: Way, p: usize)
     requires { ⌜ p < side ⌝ }
     ensures { λ _. ⌜ now (part .exit) ≡ afterTurn side way Joining.Fill p (now (part .entry)) ⌝ }
 {
-    let next = along(side, way);
-    let apart = across(side, way);
+    let next = place_gap(side, way);
+    let apart = line_gap(side, way);
     let from = behind(side, way, p);
     match from {
         Source::At(q) => join_places(part, Joining::Fill, p * next, q * next, apart, side),
@@ -216,7 +216,7 @@ fn fill(part: &mut [u32], side: usize, way: Way)
 }
 
 // One move inside a group, in its own stretch: with a front that position alone has its turn.
-fn step(part: &mut [u32], side: usize, way: Way, rule: JoinRule, line: Line)
+fn step(part: &mut [u32], side: usize, way: Way, rule: JoinRule, line: LinePlaces)
     requires { ⌜ Group side (length (now part)) ⌝ }
     requires { ⌜ line ≡ lineAt side way (rule .front) ⌝ }
     ensures { λ _. ⌜ now (part .exit) ≡ stepped side way rule (now (part .entry)) ⌝ }

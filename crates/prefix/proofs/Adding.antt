@@ -14,7 +14,7 @@ use Rattle.sums.specs.Sums.{plus, minus}
 use Rattle.lanes.specs.Stages.{from, light, copy}
 use Rattle.prefix.specs.Programs.{Sums, loadSums, addRow, addColumn, takeGroup, addGroups, addGroupRows, rowsAbove, takeAbove, groupsBefore, takeBefore, rowBefore, takeRow, prefixSum, prefixed}
 use Rattle.prefix.specs.Results.{prefixSumWords}
-use Rattle.lanes.specs.Inside.{swapped}
+use Rattle.lanes.specs.Inside.{swappedState}
 use Rattle.prefix.specs.Inside.{summed, copied, modified, finished}
 use Rattle.lanes.proofs.Coordinates.{unload-by, sum-to}
 use Rattle.lanes.proofs.Lines.{right-all, down-all, left-all, up-all, acc-copy, acc-plus}
@@ -30,7 +30,7 @@ module _ (s : ℕ) where
   C₂ w = summed s Down (R₁ w)
 
   unfoldable pub A₃ : State ℕ → State ℕ
-  A₃ w = swapped (C₂ w)
+  A₃ w = swappedState (C₂ w)
 
   unfoldable pub Y₄ : State ℕ → State ℕ
   Y₄ w = summed s Right (A₃ w)
@@ -55,8 +55,8 @@ module _ (s : ℕ) where
 
 -- the last lane from those that the code's parts leave
 pub parts-are : (s : ℕ) (w : State ℕ)
-    → finished s (summed s Right w) (summed s Down (summed s Right w)) (modified s (swapped (summed s Down (summed s Right w)))
-    (summed s Right (swapped (summed s Down (summed s Right w)))) (summed s Down (summed s Right (swapped (summed s Down (summed s Right w))))))
+    → finished s (summed s Right w) (summed s Down (summed s Right w)) (modified s (swappedState (summed s Down (summed s Right w)))
+    (summed s Right (swappedState (summed s Down (summed s Right w)))) (summed s Down (summed s Right (swappedState (summed s Down (summed s Right w))))))
     ≡ P₉ s w
 unfolding R₁ C₂ A₃ Y₄ Z₅ U₆ M₇ M₈ V₉ P₉
 parts-are s w = refl

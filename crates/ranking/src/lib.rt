@@ -28,7 +28,7 @@ fn wide(mark: u8) -> u32
 }
 
 // The marks as words.
-fn load(marks: &[u8], sums: &mut [u32])
+fn load_marks(marks: &[u8], sums: &mut [u32])
     requires { ⌜ length (now marks) ≡ length (now sums) ⌝ }
     ensures { λ _. ⌜ new sums ≡ old marks ⌝ }
 {
@@ -53,7 +53,7 @@ fn aim(mark: u8, sum: u32) -> u16
 }
 
 // The aims, of the marks and their prefix sums.
-fn unload(marks: &[u8], sums: &[u32], aims: &mut [u16])
+fn set_aims(marks: &[u8], sums: &[u32], aims: &mut [u16])
     requires { ⌜ Summed (now marks) (now sums) ⌝ }
     requires { ⌜ length (now aims) ≡ length (now marks) ⌝ }
     ensures { λ _. ⌜ new aims ≡ entries (aimIn (old marks)) 0 (length (old marks)) ⌝ }
@@ -74,9 +74,9 @@ fn rank_lanes(side: usize, marks: &[u8], sums: &mut [u32], aims: &mut [u16])
     requires { ⌜ length (now aims) ≡ length (now marks) ⌝ }
     ensures { λ _. ⌜ new aims ≡ ranks side (old marks) ⌝ }
 {
-    load(marks, sums);
+    load_marks(marks, sums);
     prefix_words(side, sums);
-    unload(marks, &sums[..], aims);
+    set_aims(marks, &sums[..], aims);
 }
 
 // The same on a board of side 2 at most, without the room that the prefix sum has for larger ones.
@@ -87,9 +87,9 @@ fn rank_least(side: usize, marks: &[u8], sums: &mut [u32], aims: &mut [u16])
     requires { ⌜ length (now marks) ≤ 16 ⌝ }
     ensures { λ _. ⌜ new aims ≡ ranks side (old marks) ⌝ }
 {
-    load(marks, sums);
+    load_marks(marks, sums);
     prefix_least(side, sums);
-    unload(marks, &sums[..], aims);
+    set_aims(marks, &sums[..], aims);
 }
 
 // On a board of side 2 at most, of side 4 at most, and of any: the lane of sums is cleared, so it is not to be much too long.
