@@ -20,10 +20,10 @@ use Rattle.runs.specs.Runs.{swapsIn, swaps, moves}
 use Rattle.travel.specs.Turns.{turnIn}
 
 -- how many swaps are made once some moves are made, where so many were made before them
-abbrev pub swapsOf : List Move → ℕ → ℕ
-swapsOf [] swaps = swaps
-swapsOf (Swap ∷ ms) swaps = swapsOf ms (suc swaps)
-swapsOf (Electronic w ∷ ms) swaps = swapsOf ms swaps
+abbrev pub swapsAfter : List Move → ℕ → ℕ
+swapsAfter [] swaps = swaps
+swapsAfter (Swap ∷ ms) swaps = swapsAfter ms (suc swaps)
+swapsAfter (Electronic w ∷ ms) swaps = swapsAfter ms swaps
 
 -- the move of run r of which t were made
 abbrev pub inRun : Run → ℕ → ℕ → Turn
@@ -73,9 +73,9 @@ module _ (m : Move) (ms : List Move) where
   take-past-run (suc t) zero h = absurd (omega arith)
   take-past-run (suc t) (suc k) h = rw suc-sub-suc (ap (λ (l : List Move). m ∷ l) (take-past-run t k (omega arith)))
 
-swaps-run : (m : Move) (t : ℕ) (ms : List Move) (swaps : ℕ) → swapsOf (replicate t m ++ ms) swaps ≡ swapsOf ms (swaps + swapsIn m t)
-swaps-run m zero ms swaps = ap (swapsOf ms) (omega (arith, few-swaps m 0))
-swaps-run Swap (suc t) ms swaps = swaps-run Swap t ms (suc swaps) ∙ ap (swapsOf ms) (omega arith)
+swaps-run : (m : Move) (t : ℕ) (ms : List Move) (swaps : ℕ) → swapsAfter (replicate t m ++ ms) swaps ≡ swapsAfter ms (swaps + swapsIn m t)
+swaps-run m zero ms swaps = ap (swapsAfter ms) (omega (arith, few-swaps m 0))
+swaps-run Swap (suc t) ms swaps = swaps-run Swap t ms (suc swaps) ∙ ap (swapsAfter ms) (omega arith)
 swaps-run (Electronic w) (suc t) ms swaps = swaps-run (Electronic w) t ms swaps
 
 pub turn-step : (rs : List Run) (swaps k : ℕ) → getD (moves rs) k Swap ≡ turnIn rs swaps k .step
@@ -89,17 +89,17 @@ turn-step (r ∷ rs) swaps k =
           ∙ sym (ap (λ (x : Turn). x .step) (turn-past r rs swaps k (omega arith)))
     ]
 
-pub turn-swaps : (rs : List Run) (swaps k : ℕ) → swapsOf (take k (moves rs)) swaps ≡ turnIn rs swaps k .swaps
+pub turn-swaps : (rs : List Run) (swaps k : ℕ) → swapsAfter (take k (moves rs)) swaps ≡ turnIn rs swaps k .swaps
 turn-swaps [] swaps zero = refl
 turn-swaps [] swaps (suc k) = refl
 turn-swaps (r ∷ rs) swaps k =
     elim (decLt k (r .times)) [
       | yes h ↦
-          ap (λ (ms : List Move). swapsOf ms swaps) (take-in-run (r .step) (moves rs) (r .times) k (omega arith))
+          ap (λ (ms : List Move). swapsAfter ms swaps) (take-in-run (r .step) (moves rs) (r .times) k (omega arith))
           ∙ swaps-run (r .step) k [] swaps
           ∙ sym (ap (λ (x : Turn). x .swaps) (turn-here r rs swaps k h))
       | no h ↦
-          ap (λ (ms : List Move). swapsOf ms swaps) (take-past-run (r .step) (moves rs) (r .times) k (omega arith))
+          ap (λ (ms : List Move). swapsAfter ms swaps) (take-past-run (r .step) (moves rs) (r .times) k (omega arith))
           ∙ swaps-run (r .step) (r .times) (take (k - r .times) (moves rs)) swaps
           ∙ turn-swaps rs (swaps + swapsIn (r .step) (r .times)) (k - r .times)
           ∙ sym (ap (λ (x : Turn). x .swaps) (turn-past r rs swaps k (omega arith)))
