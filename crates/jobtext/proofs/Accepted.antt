@@ -43,23 +43,23 @@ sound s next k (ended line ∷ ls) = go (markLine next (cells s) line) refl (λ 
     go Malformed q ih = rw (q, cellsFrom) tt
 
 -- The table of an accepted job: the value of each marked cell at its index, and what was there elsewhere.
-unfoldable pub valueAt : (CellWord → ℕ) → List CellWord → ℕ → ℕ → ℕ
-valueAt value [] i other = other
-valueAt value (e ∷ es) i other = cond (eqb i (e .index)) (value e) (valueAt value es i other)
+unfoldable pub cellValue : (CellWord → ℕ) → List CellWord → ℕ → ℕ → ℕ
+cellValue value [] i other = other
+cellValue value (e ∷ es) i other = cond (eqb i (e .index)) (value e) (cellValue value es i other)
 
-pub absent : (value : CellWord → ℕ) (es : List CellWord) (next end i other : ℕ) → i < next → Rising next end es → valueAt value es i other ≡ other
-unfolding valueAt Rising
+pub absent : (value : CellWord → ℕ) (es : List CellWord) (next end i other : ℕ) → i < next → Rising next end es → cellValue value es i other ≡ other
+unfolding cellValue Rising
 absent value [] next end i other h r = refl
 absent value (e ∷ es) next end i other h r =
     rw (ne-eqb i (e .index) (λ q. omega (arith, r .0))) (absent value es (suc (e .index)) end i other (omega (arith, r .0)) (r .2))
 
-pub table : (value : CellWord → ℕ) (es : List CellWord) (next end : ℕ) (lane : List ℕ) (i : ℕ) → Rising next end es → end ≤ length lane → getD (withCells value es lane) i 0 ≡ valueAt value es i (getD lane i 0)
-unfolding valueAt Rising withCells
+pub table : (value : CellWord → ℕ) (es : List CellWord) (next end : ℕ) (lane : List ℕ) (i : ℕ) → Rising next end es → end ≤ length lane → getD (withCells value es lane) i 0 ≡ cellValue value es i (getD lane i 0)
+unfolding cellValue Rising withCells
 table value [] next end lane i r h = refl
 table value (e ∷ es) next end lane i r h =
     table value es (suc (e .index)) end (set lane (e .index) (value e)) i (r .2) (rw length-set h) ∙ go (eqb i (e .index)) refl
   where
-    go : (t : Bool) → eqb i (e .index) ≡ t → valueAt value es i (getD (set lane (e .index) (value e)) i 0) ≡ cond (eqb i (e .index)) (value e) (valueAt value es i (getD lane i 0))
+    go : (t : Bool) → eqb i (e .index) ≡ t → cellValue value es i (getD (set lane (e .index) (value e)) i 0) ≡ cond (eqb i (e .index)) (value e) (cellValue value es i (getD lane i 0))
     go true q =
         let f : i ≡ e .index = eqb-true i (e .index) q in
         rw q (absent value es (suc (e .index)) end i _ (omega arith) (r .2) ∙ rw f (getD-set-same lane (e .index) (value e) 0 (omega (arith, r .1))))

@@ -64,8 +64,8 @@ unfolding also withCells
 with-cells-also value i w (isJob s es) lane exit h = h
 with-cells-also value i w (noJob n p) lane exit h = tt
 
-abbrev whole : ℕ → List ℕ → TextVerdict
-whole side text = cellsFrom side 0 2 (linesOf text)
+abbrev wholeVerdict : ℕ → List ℕ → TextVerdict
+wholeVerdict side text = cellsFrom side 0 2 (linesOf text)
 
 abbrev unread : ℕ → List ℕ → ℕ → ℕ → ℕ → TextVerdict
 unread side text next line at = cellsFrom side next line (linesOf (drop at text))
@@ -77,13 +77,13 @@ pub record Cells (text : List ℕ) (side : ℕ) (words₀ marks₀ words marks :
   pub low : next ≤ 4096
   pub few : marked ≤ next
   pub counted : line ≤ at + 2
-  pub job : jobWith marked (unread side text next line at) ≡ jobOf (whole side text)
-  pub words-laid : (exit : List ℕ) → WithCells (λ e. e .word) (unread side text next line at) words exit → WithCells (λ e. e .word) (whole side text) words₀ exit
-  pub marks-laid : (exit : List ℕ) → WithCells (λ e. 1) (unread side text next line at) marks exit → WithCells (λ e. 1) (whole side text) marks₀ exit
+  pub job : jobWith marked (unread side text next line at) ≡ jobOf (wholeVerdict side text)
+  pub words-laid : (exit : List ℕ) → WithCells (λ e. e .word) (unread side text next line at) words exit → WithCells (λ e. e .word) (wholeVerdict side text) words₀ exit
+  pub marks-laid : (exit : List ℕ) → WithCells (λ e. 1) (unread side text next line at) marks exit → WithCells (λ e. 1) (wholeVerdict side text) marks₀ exit
 
 -- what `read_cells` ensures
 abbrev Done : List ℕ → ℕ → List ℕ → List ℕ → List ℕ → List ℕ → Job → Type 0
-Done text side words₀ marks₀ words marks r = CellsRead (whole side text) words₀ words marks₀ marks r
+Done text side words₀ marks₀ words marks r = CellsRead (wholeVerdict side text) words₀ words marks₀ marks r
 
 pub cells-begin : (text : List ℕ) (side : ℕ) (words marks : List ℕ) → side ≤ 8 → Cells text side words marks words marks 0 2 0 0
 unfolding jobOf
@@ -93,7 +93,7 @@ cells-begin text side words marks h = record {
   low = omega arith;
   few = omega arith;
   counted = omega arith;
-  job = same-job (whole side text);
+  job = same-job (wholeVerdict side text);
   words-laid = λ exit h. h;
   marks-laid = λ exit h. h;
 }

@@ -23,11 +23,11 @@ use Rattle.lanes.specs.Inside.{Group, sourceOf, behindOf, placeGap, line
 abbrev pub spot : ℕ → Way → ℕ → ℕ → ℕ
 spot s w k p = p * placeGap s w + k * lineGap s w
 
-abbrev pub lineOf : Way → ℕ → ℕ → ℕ
-lineOf Right a b = a
-lineOf Left a b = a
-lineOf Up a b = b
-lineOf Down a b = b
+abbrev pub lineNumber : Way → ℕ → ℕ → ℕ
+lineNumber Right a b = a
+lineNumber Left a b = a
+lineNumber Up a b = b
+lineNumber Down a b = b
 
 -- by row and column
 abbrev rowOf : Way → ℕ → ℕ → ℕ
@@ -76,24 +76,24 @@ module _ {s k p : ℕ} (hk : k < s) (hp : p < s) where
   spot-position Up = row-is Up
   spot-position Down = row-is Down
 
-  pub spot-line : (w : Way) → lineOf w (row s (spot s w k p)) (column s (spot s w k p)) ≡ k
+  pub spot-line : (w : Way) → lineNumber w (row s (spot s w k p)) (column s (spot s w k p)) ≡ k
   spot-line Right = row-is Right
   spot-line Left = row-is Left
   spot-line Up = column-is Up
   spot-line Down = column-is Down
 
 -- a place is on its line at its position
-pub spot-is : (s i : ℕ) (w : Way) → spot s w (lineOf w (row s i) (column s i)) (position w (row s i) (column s i)) ≡ i
+pub spot-is : (s i : ℕ) (w : Way) → spot s w (lineNumber w (row s i) (column s i)) (position w (row s i) (column s i)) ≡ i
 spot-is s i w = spot-at s w _ _ ∙ back w ∙ place-is s i
   where
-    back : (w : Way) → rowOf w (lineOf w (row s i) (column s i)) (position w (row s i) (column s i)) * s
-        + columnOf w (lineOf w (row s i) (column s i)) (position w (row s i) (column s i)) ≡ row s i * s + column s i
+    back : (w : Way) → rowOf w (lineNumber w (row s i) (column s i)) (position w (row s i) (column s i)) * s
+        + columnOf w (lineNumber w (row s i) (column s i)) (position w (row s i) (column s i)) ≡ row s i * s + column s i
     back Right = refl
     back Left = refl
     back Up = refl
     back Down = refl
 
-pub line-in : {s : ℕ} (i : ℕ) (w : Way) → 1 ≤ s → i < groups s → lineOf w (row s i) (column s i) < s
+pub line-in : {s : ℕ} (i : ℕ) (w : Way) → 1 ≤ s → i < groups s → lineNumber w (row s i) (column s i) < s
 line-in i Right h l = row-in h i l
 line-in i Left h l = row-in h i l
 line-in i Up h l = column-in h i
@@ -129,7 +129,7 @@ abbrev pub placed : (ℕ → ℕ) → Source → Source
 placed f (At q) = At (f q)
 placed f Nothing = Nothing
 
-pub source-is : (s i : ℕ) (w : Way) → sourceOf s w i ≡ placed (spot s w (lineOf w (row s i) (column s i))) (behindOf s w (position w (row s i) (column s i)))
+pub source-is : (s i : ℕ) (w : Way) → sourceOf s w i ≡ placed (spot s w (lineNumber w (row s i) (column s i))) (behindOf s w (position w (row s i) (column s i)))
 source-is s i Right = go (ltb 0 (column s i)) refl
   where
     go : (t : Bool) → ltb 0 (column s i) ≡ t → cond t (At (i - 1)) Nothing ≡ placed (spot s Right (row s i)) (cond t (At (column s i - 1)) Nothing)

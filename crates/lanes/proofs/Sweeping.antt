@@ -25,7 +25,7 @@ use Rattle.lanes.specs.Stages.{front, copy, filled, position}
 use Rattle.lanes.specs.Inside.{Group, sourceOf, wordAt, nextOf, stepped, filling, afterTurn, behindOf, placeGap, lineGap, noLine, lineFrom, lineAt, orderOf, PlacesLaid, joinOf, joinFrom}
 use Rattle.lanes.specs.Runs.{ruleOf}
 use Rattle.lanes.proofs.Lines.{front-now, front-not}
-use Rattle.lanes.proofs.Spots.{spot, lineOf, spot-is, spot-line, spot-position, spot-in, line-in, position-in, behind-is, placed, source-is}
+use Rattle.lanes.proofs.Spots.{spot, lineNumber, spot-is, spot-line, spot-position, spot-in, line-in, position-in, behind-is, placed, source-is}
 
 -- the position of a place
 abbrev pos : ℕ → Way → ℕ → ℕ
@@ -66,7 +66,7 @@ module _ (s : ℕ) (w : Way) (j : Joining) (p : ℕ) (l : List ℕ) where
       where
         here : (i : ℕ) → i < groups s → pos s w i ≡ p → getD l′ i 0 ≡ nextOf s w (record { joining = j; front = p }) l i
         here i u x =
-            let k = lineOf w (row s i) (column s i) in
+            let k = lineNumber w (row s i) (column s i) in
             let e : spot s w k p ≡ i = ap (spot s w k) (sym x) ∙ spot-is s i w in
             ap (λ z. getD l′ z 0) (sym e) ∙ z .done k (line-in i w (g .least) u) ∙ same k (line-in i w (g .least) u)
             ∙ ap (nextOf s w (record { joining = j; front = p }) l) e
@@ -96,8 +96,8 @@ unfolding front
 after-turn-edge s w p l op j r g h e = after-turn-by s w j p l l g refl
     (λ i u x. sym
     (ap (λ b. ruleOf j p (pos s w i) (getD l i 0) (wordAt l b)) (source-is s i w)
-    ∙ ap (λ z. ruleOf j p (pos s w i) (getD l i 0) (wordAt l (placed (spot s w (lineOf w (row s i) (column s i))) (behindOf s w z)))) x
-    ∙ ap (λ b. ruleOf j p (pos s w i) (getD l i 0) (wordAt l (placed (spot s w (lineOf w (row s i) (column s i))) b))) e
+    ∙ ap (λ z. ruleOf j p (pos s w i) (getD l i 0) (wordAt l (placed (spot s w (lineNumber w (row s i) (column s i))) (behindOf s w z)))) x
+    ∙ ap (λ b. ruleOf j p (pos s w i) (getD l i 0) (wordAt l (placed (spot s w (lineNumber w (row s i) (column s i))) b))) e
     ∙ ap (λ f. f p (pos s w i) (getD l i 0) none) r))
     (λ i u x. refl)
 
@@ -168,7 +168,7 @@ module _ {s : ℕ} {w : Way} {old : List ℕ} where
   source-same {k} {l} z i u x = rw (source-is s i w) (go (behindOf s w (pos s w i)) refl)
     where
       n : ℕ
-      n = lineOf w (row s i) (column s i)
+      n = lineNumber w (row s i) (column s i)
 
       go : (b : Source) → behindOf s w (pos s w i) ≡ b → wordAt l (placed (spot s w n) b) ≡ wordAt old (placed (spot s w n) b)
       go (At q) e =
