@@ -12,7 +12,7 @@ use Rattle.slots.specs.declared.Rec.{Rec}
 use Rattle.slots.specs.declared.Cell.{Cell}
 use Rattle.slots.specs.Cells.{nothing, joined}
 use Rattle.mesh.specs.declared.Leg.{Leg}
-use Rattle.mesh.specs.Lines.{endOf, leaves, noneLeaves, isStill, landed, laid}
+use Rattle.mesh.specs.Lines.{endOf, leaves, noneLeaves, isStill, landed, gathered}
 use Rattle.mesh.proofs.Laying.{stays-all}
 use Rattle.mesh.specs.Mesh.{lineRuleOf, ranOn}
 use Rattle.course.specs.Showing.{contentOf}
@@ -148,17 +148,17 @@ module _ {l : Leg} {b : ℕ} {R : ℕ → Rec} {pos post : ℕ → ℕ} (m : Run
       (apart (spot l (pos k)) q)
 
   -- never three on the way, for there are never three at the end
-  laid-holds : (q : ℕ) → q ≤ l .side → Holds R (Here q) (laid (lineRuleOf l) (λ q. contentOf b R pos (onLine l i q)) (spot l i) q)
-  unfolding laid
-  laid-holds zero h = hold0 refl (λ k o. omega arith)
-  laid-holds (suc q) h =
-      rw (both-landed l p q (line q) (laid (lineRuleOf l) line p q))
+  gathered-holds : (q : ℕ) → q ≤ l .side → Holds R (Here q) (gathered (lineRuleOf l) (λ q. contentOf b R pos (onLine l i q)) (spot l i) q)
+  unfolding gathered
+  gathered-holds zero h = hold0 refl (λ k o. omega arith)
+  gathered-holds (suc q) h =
+      rw (both-landed l p q (line q) (gathered (lineRuleOf l) line p q))
       (same-holds
       (λ k. ⊎-elim (λ o. (o .0, omega arith)) (λ c. (comes q k h (c .0) (ended q k c), omega (arith, was q k h (c .0)))))
       (λ k. next-here q k h)
       (joins-both R b (m .rising .marked) (m .rising .rising) (At b post i) (λ k a. a .0) (few {pos = post} (m .after) i)
       (λ k o c. omega (arith, o .1, was q k h (c .0))) (λ k o. o .0) (λ k c. comes q k h (c .0) (ended q k c))
-      (laid-holds q (omega arith))
+      (gathered-holds q (omega arith))
       (passes (λ x. eqb (endOf (lineRuleOf l) q x) p) (content-holds (m .rising) pos (m .before) (onLine l i q)))))
 
   -- a record of a still line stays where it is
@@ -193,6 +193,6 @@ module _ {l : Leg} {b : ℕ} {R : ℕ → Rec} {pos post : ℕ → ℕ} (m : Run
   unfolding ranOn
   ran-content = holds-one (go (isStill (lineRuleOf l) line) refl) (content-holds (m .rising) post (m .after) i)
     where
-      go : (a : Bool) → isStill (lineRuleOf l) line ≡ a → Holds R (At b post i) (cond a (line p) (laid (lineRuleOf l) line p (l .side)))
+      go : (a : Bool) → isStill (lineRuleOf l) line ≡ a → Holds R (At b post i) (cond a (line p) (gathered (lineRuleOf l) line p (l .side)))
       go true e = still-here e
-      go false e = same-holds (λ k o. o .0) (λ k a. (a, spot< l (m .some) (pos k))) (laid-holds (l .side) (omega arith))
+      go false e = same-holds (λ k o. o .0) (λ k a. (a, spot< l (m .some) (pos k))) (gathered-holds (l .side) (omega arith))

@@ -15,7 +15,7 @@ use Rattle.slots.specs.declared.Rec.{Rec}
 use Rattle.slots.specs.declared.Cell.{Cell}
 use Rattle.slots.specs.Cells.{joined}
 use Rattle.mesh.specs.declared.Leg.{Leg}
-use Rattle.mesh.specs.Lines.{headOf, reach, endOf, leaves, noneLeaves, landed, laid, ranLine, cellsToGo}
+use Rattle.mesh.specs.Lines.{headOf, reach, endOf, leaves, noneLeaves, landed, gathered, ranLine, cellsToGo}
 use Rattle.mesh.specs.Mesh.{strideOf, lineRuleOf, spotOf, lineCell, ranOn}
 use Rattle.mesh.specs.Inside.{Strided, lineStep, goneOf}
 use Rattle.mesh.proofs.Walking.{ends-up, ends-down}
@@ -99,13 +99,13 @@ module _ (l : Leg) (a b d : ℕ) (same : (n : ℕ) → n ≤ d → goneOf (lineR
       go false u r = ap (λ (e : ℕ). cond (eqb e p) r c) (ends-same q (headOf (lineRuleOf l) x) u)
 
   module _ (U : ℕ → Cell) (far : (q : ℕ) → q < l .side → farIn l q (U q) ≤ d) where
-    laid-same : (p n : ℕ) → n ≤ l .side → laid (lineRuleOf A) U p n ≡ laid (lineRuleOf B) U p n
-    unfolding laid
-    laid-same p zero k = refl
-    laid-same p (suc n) k =
+    gathered-same : (p n : ℕ) → n ≤ l .side → gathered (lineRuleOf A) U p n ≡ gathered (lineRuleOf B) U p n
+    unfolding gathered
+    gathered-same p zero k = refl
+    gathered-same p (suc n) k =
         let u = far n (omega arith) in
-        let below = laid (lineRuleOf B) U p n in
-        ap (λ (c : Cell). landed (lineRuleOf A) p n (U n .spare) (landed (lineRuleOf A) p n (U n .front) c)) (laid-same p n (omega arith))
+        let below = gathered (lineRuleOf B) U p n in
+        ap (λ (c : Cell). landed (lineRuleOf A) p n (U n .spare) (landed (lineRuleOf A) p n (U n .front) c)) (gathered-same p n (omega arith))
         ∙ landed-same p n (U n .spare) (landed (lineRuleOf A) p n (U n .front) below) (far-spare l n (U n) u)
         ∙ ap (landed (lineRuleOf B) p n (U n .spare)) (landed-same p n (U n .front) below (far-front l n (U n) u))
 
@@ -118,7 +118,7 @@ module _ (l : Leg) (a b d : ℕ) (same : (n : ℕ) → n ≤ d → goneOf (lineR
     line-same p h =
         let f = none-same (λ q. U q .front) (λ q u. far-front l q (U q) (far q u)) (l .side) (omega arith) in
         let g = none-same (λ q. U q .spare) (λ q u. far-spare l q (U q) (far q u)) (l .side) (omega arith) in
-        ap₂ (λ (b : Bool) (c : Cell). cond b (U p) c) (ap₂ _&&_ f g) (laid-same p (l .side) (omega arith))
+        ap₂ (λ (b : Bool) (c : Cell). cond b (U p) c) (ap₂ _&&_ f g) (gathered-same p (l .side) (omega arith))
 
 -- a run of which no move is made leaves a line as it is
 module _ (l : Leg) where

@@ -8,7 +8,8 @@ use lib.ListN.{length, getD, set, replicate, length-replicate, length-set}
 use lib.Dec.{eqb}
 use borrow.Author.Tests.{eq-eqb, ne-eqb, lt-ltb}
 use Rattle.laws.specs.Sums.{sum}
-use Rattle.laws.proofs.Sums.{sum-cong, sum-nothing, one-more}
+use Rattle.laws.proofs.Sums.{sum-cong, one-more}
+use Rattle.laws.proofs.Totals.{sum-zero}
 use Rattle.marks.specs.Marks.{rankIn}
 use Rattle.jobtext.specs.Verdicts.{CellWord}
 use Rattle.jobtext.specs.Lanes.{withCells}
@@ -31,7 +32,7 @@ module _ (end : ℕ) where
 
   -- no cell below the first is marked
   none-below : (es : List CellWord) (n : ℕ) → Rising n end es → sum n (markAt es) ≡ 0
-  none-below es n d = sum-nothing n (markAt es) (λ k l. absent (λ e. 1) es n end k 0 l d)
+  none-below es n d = sum-zero (markAt es) n (λ k l. absent (λ e. 1) es n end k 0 l d)
 
   rank-at : (es : List CellWord) (next r : ℕ) → r < length es → Rising next end es → sum (homeOf es r) (markAt es) ≡ r
   unfolding Rising cellValue
@@ -44,7 +45,7 @@ module _ (end : ℕ) where
 
   marked-all : (es : List CellWord) (next : ℕ) → Rising next end es → sum end (markAt es) ≡ length es
   unfolding Rising cellValue
-  marked-all [] next d = sum-nothing end (λ k. 0) (λ k l. refl)
+  marked-all [] next d = sum-zero (λ k. 0) end (λ k l. refl)
   marked-all (e ∷ es) next d =
       one-more end (e .index) (markAt es) (absent (λ x. 1) es (suc (e .index)) end (e .index) 0 (omega arith) (d .2))
       ∙ rw (lt-ltb (e .index) end (d .1), marked-all es (suc (e .index)) (d .2)) (omega arith)

@@ -3,6 +3,7 @@ pub mod Bools
 pub mod Deciding
 pub mod Filling
 pub mod Numbers
+pub mod Pairing
 pub mod Reversed
 pub mod Rewriting
 pub mod Searching

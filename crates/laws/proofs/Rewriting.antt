@@ -22,7 +22,7 @@ module _ {A : Type 0} (f : ℕ → A) (d : A) (old : List A) where
   pub rewriting-start : Rewriting f d old old 0
   rewriting-start = record { long = refl; entry = λ k. rw (le-ltb k 0 (omega arith)) }
 
-  -- one entry more: stored, or right as it is
+  -- one entry more
   pub rewriting-store : {l : List A} {i : ℕ} (v : A) → i < length l → v ≡ f i → Rewriting f d old l i → Rewriting f d old (set l i v) (i + 1)
   rewriting-store {l} {i} v h e z = record {
     long = length-set l i v ∙ z .long;
@@ -33,15 +33,9 @@ module _ {A : Type 0} (f : ℕ → A) (d : A) (old : List A) where
         (same? k i);
   }
 
-  pub rewriting-keep : {l : List A} {i : ℕ} → getD old i d ≡ f i → Rewriting f d old l i → Rewriting f d old l (i + 1)
-  rewriting-keep {l} {i} e z = record {
-    long = z .long;
-    entry = λ k.
-        ⊎-elim
-        (λ g. rw (g, lt-ltb i (i + 1) (omega arith)) ((rw (le-ltb i i (omega arith)) at (z .entry i)) ∙ e))
-        (λ g. rw (ltb-next k i g) (z .entry k))
-        (same? k i);
-  }
+  -- the next entry is as it was
+  pub rewriting-next : {l : List A} {i : ℕ} → Rewriting f d old l i → getD l i d ≡ getD old i d
+  rewriting-next {l} {i} z = rw (le-ltb i i (omega arith)) at (z .entry i)
 
   pub rewriting-end : {l : List A} {i : ℕ} → length l ≤ i → Rewriting f d old l i → l ≡ entries f 0 (length old)
   rewriting-end {l} {i} h z =

@@ -21,13 +21,14 @@ pub sum-blocks : (m n : ℕ) (f : ℕ → ℕ) → sum (m * n) f ≡ sum m (λ i
 sum-blocks zero n f = rw zero-mul
 sum-blocks (suc m) n f = rw (suc-mul, sum-add, sum-blocks m n f)
 
+-- pairs of values
+pub sum-pairs : (n : ℕ) (f : ℕ → ℕ) → sum (n * 2) f ≡ sum n (λ i. f (i * 2) + f (suc (i * 2)))
+sum-pairs zero f = refl
+sum-pairs (suc n) f = let e : suc n * 2 ≡ suc (suc (n * 2)) = omega arith in rw e (omega (arith, sum-pairs n f))
+
 -- a blocks of s values, and b more
 pub sum-rows : (s : ℕ) (f : ℕ → ℕ) (a b : ℕ) → sum (a * s + b) f ≡ sum a (λ i. sum s (λ j. f (i * s + j))) + sum b (λ j. f (a * s + j))
 sum-rows s f a b = sum-add (a * s) b f ∙ ap (λ n. n + sum b (λ j. f (a * s + j))) (sum-blocks a s f)
-
-pub sum-nothing : (n : ℕ) (f : ℕ → ℕ) → ((k : ℕ) → k < n → f k ≡ 0) → sum n f ≡ 0
-sum-nothing zero f h = refl
-sum-nothing (suc n) f h = omega (arith, sum-nothing n f (λ k l. h k (omega arith)), h n (omega arith))
 
 -- a sum in which one value is 1 that would be 0
 pub one-more : (n j : ℕ) (f : ℕ → ℕ) → f j ≡ 0 → sum n (λ k. cond (eqb k j) 1 (f k)) ≡ cond (ltb j n) 1 0 + sum n f

@@ -1,6 +1,5 @@
 pub mod Boards
 pub mod Groups
-pub mod Leaving
 pub mod Partners
 pub mod Turning
 pub mod Walking

@@ -13,6 +13,7 @@ use Rattle.laws.proofs.Deciding.{apart, same?}
 use Rattle.laws.proofs.Sums.{sum-cong}
 use Rattle.laws.proofs.Totals.{sum-few}
 use Rattle.laws.proofs.Tables.{entry-at, length-entries}
+use Rattle.laws.proofs.Pairing.{turnedSum, turned-start, turned-end, turned-trade, turned-skip, sum-away}
 use Rattle.laws.proofs.Trading.{Paired}
 use Rattle.array.specs.Cells.{isSide, cells, partner, isBoard}
 use Rattle.array.proofs.Board.{Side}
@@ -21,7 +22,6 @@ use Rattle.light.specs.Counts.{markCount, leavesOf, leavingOf}
 use Rattle.light.specs.Lanes.{Slots, slots, onBoard, each, swappedBy, swapsOn, Swapped}
 use Rattle.light.specs.Inside.{exchanged, Traded, Once, Times}
 use Rattle.light.proofs.Boards.{boards-known}
-use Rattle.light.proofs.Leaving.{turned, turned-start, turned-end, turned-trade, turned-skip, sum-paired-off}
 use Rattle.light.proofs.Turning.{Turning, board-known, board-side, board-cells, paired, turning-from, turning-inside, turning-turn, turning-waits, turning-end}
 
 -- two slots' lanes are equal by each
@@ -46,7 +46,7 @@ pub record Three (P : List ℕ → List ℕ → Type 0) (t u : Slots) : Type 0 w
 pub record Walking (s n j p : ℕ) (t u : Slots) (moved : ℕ) : Type 0 where
   pub lanes : Three (Turning s n j p) t u
   pub few : moved ≤ 2 * j
-  pub so-far : moved ≡ turned (cells s) (partner s) j (λ i. leavesOf (partner s i) i (getD (t .marks) i 0))
+  pub so-far : moved ≡ turnedSum (cells s) (partner s) j (λ i. leavesOf (partner s i) i (getD (t .marks) i 0))
 
 pub walking-start : (s : ℕ) (t : Slots) → onBoard s t ≡ true → Walking s (length (t .words)) 0 0 t t 0
 walking-start s t h =
@@ -72,7 +72,7 @@ module _ {s n j p moved : ℕ} {t u : Slots} (z : Walking s n j p t u moved) (h 
   abbrev leaves : ℕ → ℕ
   leaves i = leavesOf (partner s i) i (getD (t .marks) i 0)
 
-  trade : j < p → turned (cells s) (partner s) (j + 1) leaves ≡ moved + (markCount (getD (u .marks) j 0) + markCount (getD (u .marks) p 0))
+  trade : j < p → turnedSum (cells s) (partner s) (j + 1) leaves ≡ moved + (markCount (getD (u .marks) j 0) + markCount (getD (u .marks) p 0))
   trade l =
       let up : j < partner s j = omega (arith, z .lanes .words .is) in
       let back : partner s (partner s j) ≡ j = pairs .twice j (turning-inside (z .lanes .words) h) in
@@ -81,7 +81,7 @@ module _ {s n j p moved : ℕ} {t u : Slots} (z : Walking s n j p t u moved) (h 
       rw (tm .0, tm .1, z .lanes .words .is, ne-eqb (partner s j) j (λ v. omega arith), ne-eqb (partner s (partner s j)) (partner s j) (λ v. omega arith)) in
       turned-trade pairs (turning-inside (z .lanes .words) h) leaves up ∙ ap₂ _+_ (sym (z .so-far)) both
 
-  skip : p ≤ j → turned (cells s) (partner s) (j + 1) leaves ≡ moved
+  skip : p ≤ j → turnedSum (cells s) (partner s) (j + 1) leaves ≡ moved
   skip l = turned-skip pairs (turning-inside (z .lanes .words) h) leaves (omega (arith, z .lanes .words .is)) (λ v. rw (eq-eqb (partner s j) j v)) ∙ sym (z .so-far)
 
   -- a turn of every lane: its partner's entry, or nothing
@@ -122,16 +122,12 @@ walking-end {s} {n} {j} {moved = moved} {t = t} {u} h z =
 
 -- a swap takes as many records from their cells as the one before it did
 leaving-swapped : (s : ℕ) (m : List ℕ) → isBoard s (length m) ≡ true → leavingOf s (swappedLane s m) ≡ leavingOf s m
-leaving-swapped s m b =
-    let k = board-known s (length m) b in
-    let pairs = paired s k in
-    sum-cong (cells s) (λ i h. there i h pairs ∙ moved-on i h pairs) ∙ sum-paired-off pairs (λ i. leavesOf (partner s i) i (getD m i 0))
+leaving-swapped s m b = sum-cong (cells s) there ∙ sum-away (paired s (board-known s (length m) b)) (λ i. markCount (getD m i 0))
   where
-    there : (i : ℕ) → i < cells s → Paired (cells s) (partner s) → leavesOf (partner s i) i (getD (swappedLane s m) i 0) ≡ leavesOf (partner s i) i (getD m (partner s i) 0)
-    there i h pairs = ap (λ (n : ℕ). leavesOf (partner s i) i n) {x = getD (swappedLane s m) i 0} {y = getD m (partner s i) 0} (rw b (entry-at (λ j. getD m (partner s j) 0) (cells s) i 0 h))
-
-    moved-on : (i : ℕ) → i < cells s → Paired (cells s) (partner s) → leavesOf (partner s i) i (getD m (partner s i) 0) ≡ leavesOf (partner s (partner s i)) (partner s i) (getD m (partner s i) 0)
-    moved-on i h pairs = rw (pairs .twice i h) (⊎-elim (λ e. rw (eq-eqb (partner s i) i e, eq-eqb i (partner s i) (sym e))) (λ d. rw (ne-eqb (partner s i) i d, ne-eqb i (partner s i) (λ e. d (sym e)))) (same? (partner s i) i))
+    there : (i : ℕ) → i < cells s → leavesOf (partner s i) i (getD (swappedLane s m) i 0) ≡ leavesOf (partner s i) i (getD m (partner s i) 0)
+    there i h =
+        ap (λ (n : ℕ). leavesOf (partner s i) i n) {x = getD (swappedLane s m) i 0} {y = getD m (partner s i) 0}
+        (rw b (entry-at (λ j. getD m (partner s j) 0) (cells s) i 0 h))
 
 own-board : (s : ℕ) → isSide s ≡ true → isBoard s (cells s) ≡ true
 own-board s e = rw (e, eq-eqb (cells s) (cells s) refl)

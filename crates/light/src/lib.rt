@@ -1,8 +1,9 @@
 // A swap: every cell and its partner, at the other end of the light, exchange what they hold, in a lane of words or in all six lanes.
 use array::cells::is_board;
+use laws::counted;
 use links::links;
 ghost use mathlib.Core.Path.{_≡_};
-ghost use mathlib.Core.Bool.{true, cond};
+ghost use mathlib.Core.Bool.{true};
 ghost use Prim.Native.Nat.{ℕ, _+_, _≤_, _<_};
 ghost use lib.ListN.{length, getD};
 ghost use Rattle.array.specs.Cells.{isBoard, isSide, groups, cells, cell, partner};
@@ -187,12 +188,6 @@ fn trade_slots(
     moved
 }
 
-fn counted(are: bool, times: usize) -> usize
-    ensures { λ r. ⌜ r ≡ cond are times 0 ⌝ }
-{
-    if are { times } else { 0 }
-}
-
 // So many swaps of one slot's lanes, where they are a board's, and none else; how many of their records each takes to another cell.
 fn trade_times(
     side: usize,
@@ -241,17 +236,18 @@ pub fn swap_lanes(
     if by_links(side, times) {
         let list = links();
         let front = trade_times(side, times, &list[..], words, marks, aims);
-        return front + trade_times(side, times, &list[..], spare_words, spare_marks, spare_aims);
+        let spare = trade_times(side, times, &list[..], spare_words, spare_marks, spare_aims);
+        return front + spare;
     }
     let none = [0u16; 1];
     let front = trade_times(side, times, &none[..0], words, marks, aims);
-    front
-        + trade_times(
-            side,
-            times,
-            &none[..0],
-            spare_words,
-            spare_marks,
-            spare_aims,
-        )
+    let spare = trade_times(
+        side,
+        times,
+        &none[..0],
+        spare_words,
+        spare_marks,
+        spare_aims,
+    );
+    front + spare
 }

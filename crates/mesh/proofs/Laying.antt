@@ -14,7 +14,7 @@ use lib.ListN.{length, getD, set, replicate, length-set}
 use Rattle.laws.specs.Lent.{Lent, old, new}
 use Rattle.laws.specs.Sums.{sum}
 use Rattle.laws.proofs.Bools.{both-left, both-right}
-use Rattle.laws.proofs.Sums.{sum-cong}
+use Rattle.laws.proofs.Sums.{sum-cong, sum-pairs}
 use Rattle.laws.proofs.Totals.{sum-zero, sum-few}
 use Rattle.laws.proofs.Deciding.{apart, same?}
 use Rattle.laws.proofs.Setting.{getD-stored}
@@ -23,12 +23,12 @@ use Rattle.slots.specs.declared.Cell.{Cell}
 use Rattle.slots.specs.Cells.{empty, joined, cellAt}
 use Rattle.mesh.specs.declared.lines.LineRule.{LineRule}
 use Rattle.mesh.specs.declared.lines.Arrival.{Arrival}
-use Rattle.mesh.specs.Lines.{headOf, endOf, reach, leaves, noneLeaves, isStill, landed, laid, cellsToGo, wentOf, wentFrom}
+use Rattle.mesh.specs.Lines.{headOf, endOf, reach, leaves, noneLeaves, isStill, landed, gathered, cellsToGo, wentOf, wentFrom}
 use Rattle.mesh.specs.Inside.{goneOf, slotOf, slotIn, slotsAt, Taken, Laid, cellsOf, Lands, Arrives, settled, PutDown, RanLine}
 use Rattle.mesh.proofs.Walking.{leaves-gone}
 use Rattle.mesh.proofs.Ruling.{distance-few}
 use Rattle.mesh.proofs.Slots.{leaves-same}
-use Rattle.mesh.proofs.Spots.{laid-same}
+use Rattle.mesh.proofs.Spots.{gathered-same}
 
 -- a record without a mark is none
 none-joins : (c : Cell) (x : Rec) → x .mark ≡ 0 → joined c x ≡ c
@@ -188,17 +188,13 @@ spare-of q = (ap (λ (n : ℕ). n / 2) (sym (add-one (q * 2))) ∙ digits-div q 
 twice-more : (n : ℕ) → suc n * 2 ≡ suc (suc (n * 2))
 twice-more n = omega arith
 
-sum-pairs : (n : ℕ) (f : ℕ → ℕ) → sum (n * 2) f ≡ sum n (λ q. f (q * 2) + f (suc (q * 2)))
-sum-pairs zero f = refl
-sum-pairs (suc n) f = rw (twice-more n) (omega (arith, sum-pairs n f))
-
 -- slot by slot is cell by cell
-settled-laid : (t : LineRule) (U : ℕ → Cell) (j n : ℕ) → settled t U j (n * 2) ≡ laid t U j n
-unfolding settled laid
-settled-laid t U j zero = refl
-settled-laid t U j (suc n) =
+settled-gathered : (t : LineRule) (U : ℕ → Cell) (j n : ℕ) → settled t U j (n * 2) ≡ gathered t U j n
+unfolding settled gathered
+settled-gathered t U j zero = refl
+settled-gathered t U j (suc n) =
     rw (twice-more n, front-of n .0, front-of n .1, spare-of n .0, spare-of n .1)
-    (ap (λ (c : Cell). landed t j n (U n .spare) (landed t j n (U n .front) c)) (settled-laid t U j n))
+    (ap (λ (c : Cell). landed t j n (U n .spare) (landed t j n (U n .front) c)) (settled-gathered t U j n))
 
 counted : (t : LineRule) (U : ℕ → Cell) (d : ℕ) → sum (t .side * 2) (λ k. wentOf t d (k / 2) (slotIn U k)) ≡ sum (t .side) (λ q. wentFrom t d q (U q))
 counted t U d =
@@ -219,7 +215,7 @@ ran-moved {t} {start} {S} {S₂} fronts spares {line} {a} {b} {counts} few still
     let on : (q : ℕ) → q < t .side → cellsOf fronts spares q ≡ both S S₂ (start + q * t .stride) = λ q u. ap₂ (λ (x y : Rec). record { front = x; spare = y }) (f .is q u) (g .is q u) in
     record {
       made = λ p h. ap₂ (λ (x y : Rec). record { front = x; spare = y }) (l .made p h) (l₂ .made p h) ∙ m .made p (omega arith)
-          ∙ ap (settled t (cellsOf fronts spares) p) n ∙ settled-laid t (cellsOf fronts spares) p (t .side) ∙ laid-same t on p (t .side) (omega arith) ∙ sym (rw still);
+          ∙ ap (settled t (cellsOf fronts spares) p) n ∙ settled-gathered t (cellsOf fronts spares) p (t .side) ∙ gathered-same t on p (t .side) (omega arith) ∙ sym (rw still);
       kept = λ j d. ap₂ (λ (x y : Rec). record { front = x; spare = y }) (l .kept j d) (l₂ .kept j d);
       count = λ d h. ap (λ (k : List ℕ). getD k d 0) (sym e′) ∙ m .count d h
           ∙ ap₂ (λ (k : List ℕ) (n : ℕ). getD k d 0 + n) e (ap (λ (n : ℕ). sum n (λ k. wentOf t d (k / 2) (slotIn (cellsOf fronts spares) k))) n ∙ counted t (cellsOf fronts spares) d ∙ sum-cong (t .side) (λ p u. ap (wentFrom t d p) (on p u)));

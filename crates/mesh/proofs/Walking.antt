@@ -224,12 +224,27 @@ module _ (t : LineRule) (h p : ℕ) {d on : ℕ} (within : t .made ≤ t .times)
   pub ending-few : on ≤ cellsToGo t p h
   ending-few = omega (arith, f ∙ ap (goneOf t) e, gone-far t h p within)
 
-  pub ending-up : p < t .side → h < t .side → p < h → (p + on ≡ reach t h p (t .made)) × (p + on < t .side)
+  ending-up : p < t .side → h < t .side → p < h → (p + on ≡ reach t h p (t .made)) × (p + on < t .side)
   ending-up i j l =
       let z : p + on ≡ reach t h p (t .made) = ap (λ (n : ℕ). p + n) (f ∙ ap (goneOf t) e) ∙ sym (ends-up t h p within l) in
       (z, omega (arith, z, ends-in t h p within (t .side) i j))
 
-  pub ending-down : {r : ℕ} → p < t .side → h < t .side → h ≤ p → r ≡ p - on → (r ≡ reach t h p (t .made)) × (r < t .side)
+  ending-down : {r : ℕ} → p < t .side → h < t .side → h ≤ p → r ≡ p - on → (r ≡ reach t h p (t .made)) × (r < t .side)
   ending-down {r} i j l g =
       let z : r ≡ reach t h p (t .made) = g ∙ ap (λ (n : ℕ). p - n) (f ∙ ap (goneOf t) e) ∙ sym (ends-down t h p within l) in
       (z, omega (arith, z, ends-in t h p within (t .side) i j))
+
+  -- of what it goes some is up the line: all, or nothing
+  pub ending-some : {up : ℕ} → up ≡ cond (ltb p h) on 0 → up ≤ on
+  ending-some {up} e = go (ltb p h) e
+    where
+      go : (b : Bool) → up ≡ cond b on 0 → up ≤ on
+      go true g = omega arith
+      go false g = omega arith
+
+  pub ending-at : {up r : ℕ} → p < t .side → h < t .side → up ≡ cond (ltb p h) on 0 → r ≡ p + up - (on - up) → (r ≡ reach t h p (t .made)) × (r < t .side)
+  ending-at {up} {r} i j k g =
+      ⊎-elim
+      (λ l. let a : up ≡ on = k ∙ rw (lt-ltb p h l) in let b : r ≡ p + on = omega (arith, g, a) in rw b (ending-up i j l))
+      (λ l. let a : up ≡ 0 = k ∙ rw (le-ltb p h l) in ending-down i j l (omega (arith, g, a)))
+      (apart p h)

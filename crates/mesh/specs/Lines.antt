@@ -49,13 +49,13 @@ unfoldable pub landed : LineRule → ℕ → ℕ → Rec → Cell → Cell
 landed t p q x c = cond (eqb (endOf t q x) p) (joined c x) c
 
 -- what cell p holds of the records of the first q cells, each put down where its way ends
-unfoldable pub laid : LineRule → (ℕ → Cell) → ℕ → ℕ → Cell
-laid t U p zero = empty
-laid t U p (suc q) = landed t p q (U q .spare) (landed t p q (U q .front) (laid t U p q))
+unfoldable pub gathered : LineRule → (ℕ → Cell) → ℕ → ℕ → Cell
+gathered t U p zero = empty
+gathered t U p (suc q) = landed t p q (U q .spare) (landed t p q (U q .front) (gathered t U p q))
 
 -- cell p of a line after the moves; a line that nothing leaves is left alone
 abbrev pub ranLine : LineRule → (ℕ → Cell) → ℕ → Cell
-ranLine t U p = cond (isStill t U) (U p) (laid t U p (t .side))
+ranLine t U p = cond (isStill t U) (U p) (gathered t U p (t .side))
 
 -- 1 where a record that began the run in cell p goes in move j, else 0
 unfoldable pub goesAt : LineRule → ℕ → ℕ → Rec → ℕ

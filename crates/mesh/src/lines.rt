@@ -4,6 +4,7 @@ use crate::cells::any_goes;
 use crate::cells::lay_slots;
 use crate::cells::slot;
 use crate::cells::take_slots;
+use laws::counted;
 use laws::least;
 use laws::over;
 use slots::Cell;
@@ -76,7 +77,7 @@ struct Arrival {
     went: usize,
 }
 
-// The landing of a record of cell p that heads for cell h.
+// The landing of a record of cell p that heads for cell h: all that it goes is up the line, or all of it down. No branch hangs on that.
 fn landing(t: LineRule, p: usize, h: usize) -> Arrival
     requires { ⌜ (p < t .side) × (h < t .side) ⌝ }
     requires { ⌜ (t .side ≤ 8) × (t .made ≤ t .times) ⌝ }
@@ -84,18 +85,12 @@ fn landing(t: LineRule, p: usize, h: usize) -> Arrival
 {
     let far = distance(t, p, h);
     let on = gone(t, far);
-    let went = least(on, 1);
-    if p < h {
-        return Arrival {
-            far: far,
-            at: p + on,
-            went: went,
-        };
-    }
+    let up = counted(p < h, on);
+    let down = on - up;
     Arrival {
         far: far,
-        at: over(p, on),
-        went: went,
+        at: over(p + up, down),
+        went: least(on, 1),
     }
 }
 

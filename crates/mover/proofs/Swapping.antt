@@ -12,12 +12,11 @@ use Rattle.laws.proofs.Deciding.{same?}
 use Rattle.laws.proofs.Sums.{sum-cong}
 use Rattle.laws.proofs.Totals.{sum-few, sum-plus}
 use Rattle.laws.proofs.Tables.{entry-at, length-entries}
-use Rattle.laws.proofs.Trading.{Paired}
+use Rattle.laws.proofs.Pairing.{sum-away}
 use Rattle.array.specs.Cells.{isSide, cells, partner, isBoard}
 use Rattle.array.proofs.Board.{side-known, partner-in}
 use Rattle.light.specs.Counts.{leavesOf, leavingOf}
 use Rattle.light.specs.Lanes.{Slots, slots, onBoard, each, swappedBy, Table, Swapped}
-use Rattle.light.proofs.Leaving.{sum-paired-off}
 use Rattle.light.proofs.Turning.{paired}
 use Rattle.slots.specs.declared.Rec.{Rec}
 use Rattle.slots.specs.declared.Cell.{Cell}
@@ -53,17 +52,9 @@ swaps-same s pos zero e i h = e i h
 swaps-same s pos (suc m) e i h = swaps-same s pos m e (partner s i) (partner-in pos i h)
 
 module _ (s : ℕ) (side : isSide s ≡ true) where
-  pairs : Paired (cells s) (partner s)
-  pairs = paired s (side-known s side)
-
   -- each swap takes as many records to another cell as the one before it
   leaving-swapped : (T : ℕ → Cell) → leaving s (λ i. T (partner s i)) ≡ leaving s T
-  leaving-swapped T = sum-cong (cells s) moved-on ∙ sum-paired-off pairs (λ i. cond (eqb (partner s i) i) 0 (marksIn (T i)))
-    where
-      moved-on : (i : ℕ) → i < cells s → cond (eqb (partner s i) i) 0 (marksIn (T (partner s i))) ≡ cond (eqb (partner s (partner s i)) (partner s i)) 0 (marksIn (T (partner s i)))
-      moved-on i h =
-          rw (pairs .twice i h)
-          (⊎-elim (λ e. rw (eq-eqb (partner s i) i e, eq-eqb i (partner s i) (sym e))) (λ d. rw (ne-eqb (partner s i) i d, ne-eqb i (partner s i) (λ e. d (sym e)))) (same? (partner s i) i))
+  leaving-swapped T = sum-away (paired s (side-known s side)) (λ i. marksIn (T i))
 
   pub leaving-swaps : (m : ℕ) (T : ℕ → Cell) → leaving s (swapped s m T) ≡ leaving s T
   unfolding swapped

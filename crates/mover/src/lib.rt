@@ -1,6 +1,7 @@
 // The mover: the moves of whatever list it is given, made one run after the other up to a cut, on six lanes.
 use array::moves::Move;
 use array::moves::Way;
+use laws::counted;
 use laws::least;
 use laws::over;
 use light::are_lanes;
@@ -12,7 +13,7 @@ use runs::Run;
 use runs::electronic_in;
 use runs::swaps_in;
 ghost use mathlib.Core.Path.{_≡_};
-ghost use mathlib.Core.Bool.{true, cond};
+ghost use mathlib.Core.Bool.{true};
 ghost use Prim.Native.Nat.{ℕ, _+_, _<_, _≤_};
 ghost use lib.ListN.{set};
 ghost use lib.Seq.{sets};
@@ -78,12 +79,6 @@ fn goes_in(late: bool, times: usize, j: usize, d: usize) -> bool
     j < d
 }
 
-fn counted(goes: bool, records: usize) -> usize
-    ensures { λ r. ⌜ r ≡ cond goes records 0 ⌝ }
-{
-    if goes { records } else { 0 }
-}
-
 // How many records go in move j, by how far those had to go that went.
 fn movers(late: bool, times: usize, went: [usize; 8], j: usize) -> usize
     requires { ⌜ FewWent went ⌝ }
@@ -134,14 +129,14 @@ fn log_run(trip: Trip, times: usize, from: usize, tally: Tally, moved: &mut [u16
     }
 }
 
-// The first moves of a run, where so many swaps were made before: as many as are left to make. They are its electronic moves, and its swaps;
+// The first moves of a run, where so many swaps were made before: as many as remain to be made. They are its electronic moves, and its swaps;
 // one of the two there are none of.
 fn make_run(
     trip: Trip,
     side: usize,
     swaps: usize,
     run: Run,
-    left: usize,
+    remaining: usize,
     words: &mut [u32],
     marks: &mut [u8],
     aims: &mut [u16],
@@ -151,9 +146,9 @@ fn make_run(
 ) -> Tally
     requires { ⌜ isSide side ≡ true ⌝ }
     requires { ⌜ Long (cells side) words marks aims «spare_words» «spare_marks» «spare_aims» ⌝ }
-    ensures { λ r. ⌜ FromTo (MadeRun trip side swaps run left r) words marks aims «spare_words» «spare_marks» «spare_aims» ⌝ }
+    ensures { λ r. ⌜ FromTo (MadeRun trip side swaps run remaining r) words marks aims «spare_words» «spare_marks» «spare_aims» ⌝ }
 {
-    let made = least(run.times, left);
+    let made = least(run.times, remaining);
     let step = run.step;
     let n = swaps_in(step, made);
     let went = run_all(

@@ -12,7 +12,8 @@ use lib.ListN.{length, getD}
 use Rattle.laws.specs.Sums.{sum}
 use Rattle.laws.specs.Tables.{entries}
 use Rattle.laws.proofs.Deciding.{same?}
-use Rattle.laws.proofs.Sums.{sum-cong, sum-nothing, one-more}
+use Rattle.laws.proofs.Sums.{sum-cong, one-more}
+use Rattle.laws.proofs.Totals.{sum-zero}
 use Rattle.laws.proofs.Tables.{length-entries, entry-at}
 use Rattle.array.specs.Cells.{cells}
 use Rattle.lists.specs.declared.Trip.the-variants.{Concentrate, Distribute}
@@ -77,7 +78,7 @@ module _ (aims : List ℕ) where
 
   -- so many are marked before cell n: all, where every aim is before it; r, where it is the cell of aim r
   all-named : (b n : ℕ) → Rise b → ((r : ℕ) → r < b → getD aims r 0 < n) → sum n (namedMark aims b) ≡ b
-  all-named zero n u l = sum-nothing n (namedMark aims 0) (λ k h. refl)
+  all-named zero n u l = sum-zero (namedMark aims 0) n (λ k h. refl)
   all-named (suc b) n u l =
       let before = all-named b n (fewer u) (λ r h. l r (omega arith)) in
       next b n u ∙ rw (lt-ltb (getD aims b 0) n (l b (omega arith))) (omega (arith, before))

@@ -26,7 +26,7 @@ use Rattle.shifts.specs.Results.{shiftWords}
 use Rattle.words.specs.Entries.{sumCases, shiftCases}
 use Rattle.slots.specs.declared.Cell.{Cell}
 use Rattle.slots.specs.Cells.{empty, joined, cellAt}
-use Rattle.mesh.specs.Lines.{reach, leaves, noneLeaves, landed, laid, goesAt}
+use Rattle.mesh.specs.Lines.{reach, leaves, noneLeaves, landed, gathered, goesAt}
 use Rattle.mesh.specs.Mesh.{ranOn}
 use Rattle.mover.specs.Runs.{swapped, madeOf, after, movedLog}
 use Rattle.course.specs.Showing.{contentOf}
@@ -126,7 +126,7 @@ logOfRuns trip s (r ∷ rs) swaps k T =
 
 -- the same move by move, from lanes whose unmarked cells were cleared
 unfoldable pub moving : Trip → ℕ → List ℕ → List ℕ → List ℕ → Row
-unfolding after movedLog swapped ranOn laid landed noneLeaves leaves goesAt reach joined
+unfolding after movedLog swapped ranOn gathered landed noneLeaves leaves goesAt reach joined
 moving trip s words marks aims = from (cellAt (kept marks words) marks (kept marks aims) [] [] [])
   where
     from : (ℕ → Cell) → Row

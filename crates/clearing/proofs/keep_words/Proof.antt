@@ -1,65 +1,64 @@
 -- `clearing::keep_words` meets its contract: cell after cell, by its mark.
 use Prim.Native.Nat.{_-_, _≤_}
-use mathlib.Core.Path.{sym, _∙_}
-use mathlib.Core.Logic.{⊎-elim}
 use native.Mathlib.Omega.{arith}
 use borrow.Author.Needs.{needs}
-use borrow.Author.Tests.{eq-eqb, ne-eqb}
 use lib.ListN.{length}
-use Rattle.laws.proofs.Rewriting.{Rewriting, rewriting-start, rewriting-store, rewriting-keep, rewriting-end}
+use Rattle.laws.proofs.Rewriting.{rewriting-start, rewriting-end}
 use Rattle.clearing.specs.Cleared.{keptAt}
+use Rattle.clearing.proofs.Keeping.{Keeping, keeping-next}
 use Rattle.clearing.proofs.keep_words.Statement.{statement}
 use Rattle.clearing.proofs.keep_words.Tie as tie
 
 abbrev Inv-loop : tie.InvT-loop
-Inv-loop marks lane₀ i₀ lane i = (i ≤ length lane₀) × Rewriting (keptAt marks lane₀) 0 lane₀ lane i
+Inv-loop marks words₀ i₀ words i = (i ≤ length words₀) × Keeping marks words₀ words i
 
 abbrev μ-loop : tie.MeasureT-loop
-μ-loop marks lane₀ i₀ lane i = length lane₀ - i
+μ-loop marks words₀ i₀ words i = length words₀ - i
 
 loop-holds : tie.Need-loop-holds Inv-loop μ-loop
 loop-holds c =
-    let s = c .before .before in
-    (omega arith, rewriting-start (keptAt (s .args .marks .now) (s .args .words .now)) 0 (s .args .words .now))
+    let a = c .before .before .args in
+    (omega arith, rewriting-start (keptAt (a .marks .now) (a .words .now)) 0 (a .words .now))
 
 mark-at-requires : tie.Need-mark-at-requires Inv-loop μ-loop
-mark-at-requires c κs = search needs
+mark-at-requires c κs = tt
+
+mul-word-kept : tie.Need-mul-word-kept Inv-loop μ-loop
+mul-word-kept c = search needs
+
+slice-read-word-kept : tie.Need-slice-read-word-kept Inv-loop μ-loop
+slice-read-word-kept c = c .before .before .loop-test .taken
+
+word-kept-requires : tie.Need-word-kept-requires Inv-loop μ-loop
+word-kept-requires c κs = tt
 
 mul-words : tie.Need-mul-words Inv-loop μ-loop
 mul-words c = search needs
 
 slice-write-words : tie.Need-slice-write-words Inv-loop μ-loop
-slice-write-words c = omega (arith, c .before .before .loop-test .taken)
+slice-write-words c = c .before .before .before .loop-test .taken
 
 add-i : tie.Need-add-i Inv-loop μ-loop
-add-i c = omega (arith, c .before .before .loop-test .taken, c .before .before .before .loop .inv .1 .long)
+add-i c = omega (arith, c .before .before .before .loop-test .taken, c .before .before .before .before .loop .inv .1 .long)
 
 loop-less : tie.Need-loop-less Inv-loop μ-loop
-loop-less c = omega (arith, c .before .before .loop-test .taken, c .before .before .before .loop .inv .1 .long)
+loop-less c = omega (arith, c .before .before .before .loop-test .taken, c .before .before .before .before .loop .inv .1 .long)
 
 loop-again : tie.Need-loop-again Inv-loop μ-loop
 loop-again c =
-    let m = c .before in
-    let l₂ = m .before in
-    let l₃ = l₂ .before in
-    let b = l₃ .before .before in
-    let s = b .before in
-    let l = l₃ .loop in
-    let f = keptAt (s .args .marks .now) (s .args .words .now) in (
-      omega (arith, l₂ .loop-test .taken, l .inv .1 .long),
-      ⊎-elim
-          (λ w. rw (w .1) (rewriting-store f 0 (s .args .words .now) 0 (l₂ .loop-test .taken) (sym (rw (ne-eqb _ _ (λ e. w .0 .taken (m .mark-at .ensures ∙ e))))) (l .inv .1)))
-          (λ w. rw (w .1) (rewriting-keep f 0 (s .args .words .now) (sym (rw (eq-eqb _ _ (sym (m .mark-at .ensures) ∙ w .0 .left)))) (l .inv .1)))
-          (c .if1 .came),
-    )
+    let s = c .before .before .before .before .before .before .before in
+    let a = s .args in
+    let i = c .before .before .before .before .loop .inv in
+    let h = c .before .before .before .loop-test .taken in
+    (omega (arith, h, i .1 .long), keeping-next (a .marks .now) (a .words .now) h (c .before .before .mark-at .ensures) (c .word-kept .ensures) (i .1))
 
 same-length : tie.Need-same-length Inv-loop μ-loop
 same-length c = c .before .loop .inv .1 .long
 
 returns : tie.Need-returns Inv-loop μ-loop
 returns c =
-    let s = c .before .before .before .before in
-    rewriting-end (keptAt (s .args .marks .now) (s .args .words .now)) 0 (s .args .words .now) (c .loop-test .left) (c .before .loop .inv .1)
+    let a = c .before .before .before .before .args in
+    rewriting-end (keptAt (a .marks .now) (a .words .now)) 0 (a .words .now) (c .loop-test .left) (c .before .loop .inv .1)
 
 pub keep-words-spec : {M : Type 1} → statement M
 keep-words-spec =
@@ -69,6 +68,9 @@ keep-words-spec =
     μ-loop
     loop-holds
     mark-at-requires
+    mul-word-kept
+    slice-read-word-kept
+    word-kept-requires
     mul-words
     slice-write-words
     add-i

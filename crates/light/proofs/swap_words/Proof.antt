@@ -1,9 +1,8 @@
 -- `light::swap_words` meets its contract: with the link list at side 8, and else with none.
-use mathlib.Core.Path.{sym, _∙_}
-use borrow.Author.Tests.{not-true, not-false}
 use Rattle.light.proofs.Turning.{not-swapped}
 use Rattle.light.proofs.Partners.{listed-links, listed-none}
 use borrow.Author.Needs.{needs}
+use Rattle.laws.proofs.Bools.{passed, failed}
 use Rattle.light.proofs.swap_words.Statement.{statement}
 use Rattle.light.proofs.swap_words.Tie as tie
 
@@ -13,7 +12,7 @@ is-board-requires c κs = search needs
 returns : tie.Need-returns
 returns c =
     let s = c .before .before .before in
-    not-swapped (s .args .side) (s .args .lane .now) (sym (c .before .is-board .ensures) ∙ not-true _ (c .if1 .taken))
+    not-swapped (s .args .side) (s .args .lane .now) (failed (c .before .is-board .ensures) (c .if1 .taken))
 
 links-requires : tie.Need-links-requires
 links-requires c κs = search needs
@@ -26,7 +25,7 @@ trade-words-requires c κs =
     let i = c .before .before .before in
     let i₂ = i .before in
     let i₃ = i₂ .before in
-    (sym (i₃ .is-board .ensures) ∙ not-false _ (i₂ .if1 .left), listed-links _ _ (i .if2 .taken) (c .before .before .links .ensures))
+    (passed (i₃ .is-board .ensures) (i₂ .if1 .left), listed-links _ _ (i .if2 .taken) (c .before .before .links .ensures))
 
 same-length : tie.Need-same-length
 same-length c = search needs
@@ -45,7 +44,7 @@ trade-words-requires-2 c κs =
     let i = c .before .before .before in
     let i₂ = i .before in
     let s = i₂ .before .before in
-    (sym (i₂ .is-board .ensures) ∙ not-false _ (i .if1 .left), listed-none (s .args .side))
+    (passed (i₂ .is-board .ensures) (i .if1 .left), listed-none (s .args .side))
 
 same-length-2 : tie.Need-same-length-2
 same-length-2 c = search needs

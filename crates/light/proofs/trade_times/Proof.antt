@@ -8,11 +8,6 @@ use Rattle.light.specs.Inside.{Times}
 use Rattle.light.proofs.Walking.{times-start, times-next, times-board, times-end, some-counted, times-counted}
 use Rattle.light.proofs.trade_times.Statement.{statement}
 use Rattle.light.proofs.trade_times.Tie as tie
-use Rattle.light.proofs.trade_times.Reads as reads
-use Rattle.light.proofs.trade_times.Lts as lts
-use Rattle.light.proofs.are_slots.Reads as are-slots-reads
-use Rattle.light.proofs.counted.Reads as counted-reads
-use Rattle.light.proofs.trade_slots.Reads as trade-slots-reads
 
 abbrev Inv-loop : tie.InvT-loop
 Inv-loop side times list words₀ marks₀ aims₀ n moved₀ j₀ words marks aims moved j =

@@ -1,8 +1,8 @@
 use Prim.Native.Nat.{_-_}
 use mathlib.Core.Path.{_≡_, refl, sym, _∙_}
 use native.Mathlib.Omega.{arith}
-use borrow.Author.Tests.{not-true, not-false}
 use borrow.Author.Needs.{needs}
+use Rattle.laws.proofs.Bools.{passed, failed}
 use Rattle.array.specs.Cells.{groups as groupsOf, cells}
 use Rattle.array.proofs.Board.{side-known}
 use Rattle.slots.specs.Cells.{Sized, cellAt}
@@ -29,36 +29,36 @@ are-lanes-requires : tie.Need-are-lanes-requires Inv-loop μ-loop
 are-lanes-requires c κs = tt
 
 returns : tie.Need-returns Inv-loop μ-loop
-returns c = ran-none (sym (c .before .are-lanes .ensures) ∙ not-true _ (c .if1 .taken))
+returns c = ran-none (failed (c .before .are-lanes .ensures) (c .if1 .taken))
 
 rule-of-requires : tie.Need-rule-of-requires Inv-loop μ-loop
 rule-of-requires c κs = let a = c .before .before .before .before .before .before .before .before .args in
-    let e = sym (c .before .are-lanes .ensures) ∙ not-false _ (c .if1 .left) in
+    let e = passed (c .before .are-lanes .ensures) (c .if1 .left) in
     let k = lanes-known (a .leg .side) (a .words .now) (a .marks .now) (a .aims .now) (a .spare-words .now) (a .spare-marks .now) (a .spare-aims .now) e in
     let s = side-known (a .leg .side) (k .side) in
     (s .least, s .most)
 
 share-requires : tie.Need-share-requires Inv-loop μ-loop
 share-requires c κs = let a = c .before .before .before .before .before .before .before .before .before .args in
-    let e = sym (c .before .before .are-lanes .ensures) ∙ not-false _ (c .before .if1 .left) in
+    let e = passed (c .before .before .are-lanes .ensures) (c .before .if1 .left) in
     let k = lanes-known (a .leg .side) (a .words .now) (a .marks .now) (a .aims .now) (a .spare-words .now) (a .spare-marks .now) (a .spare-aims .now) e in
     rw (c .rule-of .ensures) (period-few (side-known (a .leg .side) (k .side)) (a .leg .low) (a .leg .way))
 
 mul-size : tie.Need-mul-size Inv-loop μ-loop
 mul-size c = let a = c .before .before .before .before .before .before .before .before .before .before .before .args in
-    let e = sym (c .before .before .before .before .are-lanes .ensures) ∙ not-false _ (c .before .before .before .if1 .left) in
+    let e = passed (c .before .before .before .before .are-lanes .ensures) (c .before .before .before .if1 .left) in
     let k = lanes-known (a .leg .side) (a .words .now) (a .marks .now) (a .aims .now) (a .spare-words .now) (a .spare-marks .now) (a .spare-aims .now) e in
     rw (c .before .before .rule-of .ensures) (omega (arith, side-known (a .leg .side) (k .side) .groups-few))
 
 moving-groups-requires : tie.Need-moving-groups-requires Inv-loop μ-loop
 moving-groups-requires c κs = let a = c .before .before .before .before .before .before .before .before .before .before .before .args in
-    let e = sym (c .before .before .before .before .are-lanes .ensures) ∙ not-false _ (c .before .before .before .if1 .left) in
+    let e = passed (c .before .before .before .before .are-lanes .ensures) (c .before .before .before .if1 .left) in
     let k = lanes-known (a .leg .side) (a .words .now) (a .marks .now) (a .aims .now) (a .spare-words .now) (a .spare-marks .now) (a .spare-aims .now) e in
     rw (c .before .before .rule-of .ensures) (side-known (a .leg .side) (k .side) .most)
 
 loop-holds : tie.Need-loop-holds Inv-loop μ-loop
 loop-holds c = let a = c .before .before .before .before .before .before .before .before .before .before .before .before .args in
-    let e = sym (c .before .before .before .before .before .are-lanes .ensures) ∙ not-false _ (c .before .before .before .before .if1 .left) in
+    let e = passed (c .before .before .before .before .before .are-lanes .ensures) (c .before .before .before .before .if1 .left) in
     let k = lanes-known (a .leg .side) (a .words .now) (a .marks .now) (a .aims .now) (a .spare-words .now) (a .spare-marks .now) (a .spare-aims .now) e in
     let z = ruled (a .leg) (k .side) (c .before .before .before .rule-of .ensures) (c .before .before .share .ensures) in
     (refl, c .moving-groups .ensures, z .0, z .1, rw (c .before .before .before .rule-of .ensures) (k .sized), ranged-start _ _ refl (no-counts 8), rw (c .before .before .before .rule-of .ensures) (k .sized))
@@ -134,7 +134,7 @@ returns-2 c =
     let i₂ = r .before in
     let a = i₂ .before in
     let i = c .before .loop .inv in
-    ranged-end (sym (a .are-lanes .ensures) ∙ not-false _ (i₂ .if1 .left)) (r .rule-of .ensures) (known (i .2) .least) (i .2 .stride) (i .1)
+    ranged-end (passed (a .are-lanes .ensures) (i₂ .if1 .left)) (r .rule-of .ensures) (known (i .2) .least) (i .2 .stride) (i .1)
     (c .loop-test .left) (i .5)
 
 pub run-all-spec : {M : Type 1} → statement M

@@ -1,8 +1,8 @@
 use Prim.Native.Nat.{_-_, _≤_}
 use mathlib.Core.Path.{_≡_, refl, sym, _∙_}
 use native.Mathlib.Omega.{arith}
-use borrow.Author.Tests.{not-true, not-false}
 use lib.ListN.{length}
+use Rattle.laws.proofs.Bools.{passed, failed}
 use Rattle.array.specs.declared.moves.Move.the-variants.{Swap}
 use Rattle.array.specs.Cells.{cells}
 use Rattle.slots.specs.Cells.{Sized, cellAt}
@@ -24,13 +24,13 @@ are-lanes-requires : tie.Need-are-lanes-requires Inv-loop μ-loop
 are-lanes-requires c κs = tt
 
 returns : tie.Need-returns Inv-loop μ-loop
-returns c = ran-nothing (sym (c .before .are-lanes .ensures) ∙ not-true _ (c .if1 .taken))
+returns c = ran-nothing (failed (c .before .are-lanes .ensures) (c .if1 .taken))
 
 loop-holds : tie.Need-loop-holds Inv-loop μ-loop
 loop-holds c =
     let s = c .before .before .before .before .before .before .before .before .before in
     let a = s .args in
-    let e = sym (c .before .are-lanes .ensures) ∙ not-false _ (c .if1 .left) in
+    let e = passed (c .before .are-lanes .ensures) (c .if1 .left) in
     let k = lanes-known (a .side) (a .words .now) (a .marks .now) (a .aims .now) (a .spare-words .now) (a .spare-marks .now) (a .spare-aims .now) e in
     (k, k .sized, refl, omega (arith, s .fits), running-start _ _ _ _ _ _)
 
@@ -119,7 +119,7 @@ same-length-7 : tie.Need-same-length-7 Inv-loop μ-loop
 same-length-7 c = c .before .loop .inv .2
 
 returns-2 : tie.Need-returns-2 Inv-loop μ-loop
-returns-2 c = running-end _ (sym (c .before .before .before .are-lanes .ensures) ∙ not-false _ (c .before .before .if1 .left)) (omega (arith, c .loop-test .left)) (c .before .loop .inv .4)
+returns-2 c = running-end _ (passed (c .before .before .before .are-lanes .ensures) (c .before .before .if1 .left)) (omega (arith, c .loop-test .left)) (c .before .loop .inv .4)
 
 pub run-spec : {M : Type 1} → statement M
 run-spec =

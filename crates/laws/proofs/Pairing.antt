@@ -1,4 +1,4 @@
--- How many records leave their cells in a swap, counted in pairs: a cell and its partner, when they trade.
+-- Sums over entries that trade places in pairs: an entry and its partner count when they trade.
 use Prim.Native.Nat.{ℕ, zero, suc, min, _+_, _≤_, _<_}
 use mathlib.Core.Path.{_≡_, refl, sym, ap, _∙_}
 use mathlib.Core.Logic.{⊎-elim}
@@ -6,11 +6,11 @@ use mathlib.Core.Bool.{Bool, true, false, cond}
 use native.Mathlib.Omega.{arith}
 use borrow.Author.Tests.{eq-eqb, ne-eqb, lt-ltb, le-ltb}
 use lib.Dec.{eqb, ltb}
 use Rattle.laws.specs.Sums.{sum}
 use Rattle.laws.proofs.Deciding.{same?, ltb-next}
-use Rattle.laws.proofs.Sums.{sum-cong, sum-nothing}
-use Rattle.laws.proofs.Totals.{sum-point, sum-swap}
+use Rattle.laws.proofs.Sums.{sum-cong}
+use Rattle.laws.proofs.Totals.{sum-zero, sum-point, sum-swap}
 use Rattle.laws.proofs.Trading.{Paired}
 
 -- a sum of which one value changes
 sum-changed : (n j : ℕ) (f g : ℕ → ℕ) → j < n → ((i : ℕ) → i < n → (i ≡ j → ⊥) → g i ≡ f i) → sum n g + f j ≡ sum n f + g j
@@ -38,13 +38,13 @@ sum-paired n j q f g l h a b e =
     there i v = rw (ne-eqb i j v)
 
 -- the sum over the entries that had their turn among the first j
-abbrev pub turned : ℕ → (ℕ → ℕ) → ℕ → (ℕ → ℕ) → ℕ
-turned n p j f = sum n (λ i. cond (ltb (min i (p i)) j) (f i) 0)
+abbrev pub turnedSum : ℕ → (ℕ → ℕ) → ℕ → (ℕ → ℕ) → ℕ
+turnedSum n p j f = sum n (λ i. cond (ltb (min i (p i)) j) (f i) 0)
 
-pub turned-start : (n : ℕ) (p f : ℕ → ℕ) → turned n p 0 f ≡ 0
-turned-start n p f = sum-nothing n _ (λ i h. rw (le-ltb (min i (p i)) 0 (omega arith)))
+pub turned-start : (n : ℕ) (p f : ℕ → ℕ) → turnedSum n p 0 f ≡ 0
+turned-start n p f = sum-zero _ n (λ i h. rw (le-ltb (min i (p i)) 0 (omega arith)))
 
-pub turned-end : (n j : ℕ) (p f : ℕ → ℕ) → n ≤ j → turned n p j f ≡ sum n f
+pub turned-end : (n j : ℕ) (p f : ℕ → ℕ) → n ≤ j → turnedSum n p j f ≡ sum n f
 turned-end n j p f h = sum-cong n (λ i u. rw (lt-ltb (min i (p i)) j (omega arith)))
 
 -- one turn; an entry that is its own partner counts for nothing
@@ -52,7 +52,7 @@ module _ {n : ℕ} {p : ℕ → ℕ} (pairs : Paired n p) {j : ℕ} (h : j < n) 
   turns : (i : ℕ) → i < n → (i ≡ j → ⊥) → (i ≡ p j → ⊥) → min i (p i) ≡ j → ⊥
   turns i u d d' e = ⊎-elim (λ v. d' (sym (pairs .twice i u) ∙ ap p v)) (λ v. d (omega (arith, v))) (same? (p i) j)
 
-  pub turned-trade : j < p j → turned n p (j + 1) f ≡ turned n p j f + (f j + f (p j))
+  pub turned-trade : j < p j → turnedSum n p (j + 1) f ≡ turnedSum n p j f + (f j + f (p j))
   turned-trade l =
       let q : p (p j) ≡ j = pairs .twice j h in
       let e = sum-paired n j (p j) (λ i. cond (ltb (min i (p i)) j) (f i) 0) (λ i. cond (ltb (min i (p i)) (j + 1)) (f i) 0) l (pairs .inside j h)
@@ -61,7 +61,7 @@ module _ {n : ℕ} {p : ℕ → ℕ} (pairs : Paired n p) {j : ℕ} (h : j < n) 
       (λ i u d d'. rw (ltb-next (min i (p i)) j (turns i u d d'))) in
       rw (lt-ltb (min j (p j)) (j + 1) (omega arith), lt-ltb (min (p j) (p (p j))) (j + 1) (omega arith)) at e
 
-  pub turned-skip : p j ≤ j → (p j ≡ j → f j ≡ 0) → turned n p (j + 1) f ≡ turned n p j f
+  pub turned-skip : p j ≤ j → (p j ≡ j → f j ≡ 0) → turnedSum n p (j + 1) f ≡ turnedSum n p j f
   turned-skip l z = sum-cong n (λ i u. ⊎-elim (here i u) (λ d. other i (λ e. ⊎-elim (λ v. omega (arith, d)) (λ v. turns i u d v e) (same? i (p j)))) (same? i j))
     where
       other : (i : ℕ) → (min i (p i) ≡ j → ⊥) → cond (ltb (min i (p i)) (j + 1)) (f i) 0 ≡ cond (ltb (min i (p i)) j) (f i) 0
@@ -71,7 +71,7 @@ module _ {n : ℕ} {p : ℕ → ℕ} (pairs : Paired n p) {j : ℕ} (h : j < n) 
       here i u e = ⊎-elim (λ v. rw (lt-ltb (min i (p i)) (j + 1) (omega (arith, ap p e)), le-ltb (min i (p i)) j (omega (arith, ap p e))) (ap f e ∙ z v)) (λ v. other i (λ w. v (omega (arith, ap p e)))) (same? (p j) j)
 
 -- a sum over partners is the sum
-pub sum-paired-off : {n : ℕ} {p : ℕ → ℕ} → Paired n p → (f : ℕ → ℕ) → sum n (λ i. f (p i)) ≡ sum n f
+sum-paired-off : {n : ℕ} {p : ℕ → ℕ} → Paired n p → (f : ℕ → ℕ) → sum n (λ i. f (p i)) ≡ sum n f
 sum-paired-off {n} {p} pairs f =
     sum-cong n (λ i h. sym (only (p i) (pairs .inside i h) (λ j. eqb j (p i)) (eq-eqb (p i) (p i) refl) (λ j d. ne-eqb j (p i) d)))
     ∙ sum-swap (λ i j. cond (eqb j (p i)) (f j) 0) n n
@@ -80,3 +80,12 @@ sum-paired-off {n} {p} pairs f =
   where
     only : (k : ℕ) → k < n → (t : ℕ → Bool) → t k ≡ true → ((j : ℕ) → (j ≡ k → ⊥) → t j ≡ false) → sum n (λ j. cond (t j) (f j) 0) ≡ f k
     only k h t e g = sum-point (λ j. cond (t j) (f j) 0) n k h (λ j u d. rw (g j d)) ∙ rw e
+
+-- and so is one over those that are not their own partners
+pub sum-away : {n : ℕ} {p : ℕ → ℕ} → Paired n p → (f : ℕ → ℕ) → sum n (λ i. cond (eqb (p i) i) 0 (f (p i))) ≡ sum n (λ i. cond (eqb (p i) i) 0 (f i))
+sum-away {n} {p} pairs f = sum-cong n both ∙ sum-paired-off pairs (λ i. cond (eqb (p i) i) 0 (f i))
+  where
+    both : (i : ℕ) → i < n → cond (eqb (p i) i) 0 (f (p i)) ≡ cond (eqb (p (p i)) (p i)) 0 (f (p i))
+    both i h =
+        rw (pairs .twice i h)
+        (⊎-elim (λ e. rw (eq-eqb (p i) i e, eq-eqb i (p i) (sym e))) (λ d. rw (ne-eqb (p i) i d, ne-eqb i (p i) (λ e. d (sym e)))) (same? (p i) i))
