@@ -1,6 +1,6 @@
 -- The swap of a lane, group after group: in group g the cells past place g trade with their partners, which come later, and the others
 -- had their turn before, or are their own partners.
-use Prim.Native.Nat.{ℕ, zero, suc, _+_, _*_, _≤_, _<_}
+use Prim.Native.Nat.{ℕ, zero, suc, min, _+_, _*_, _≤_, _<_}
 use mathlib.Core.Path.{_≡_, refl, sym, ap, _∙_}
 use mathlib.Core.Bool.{true}
 use mathlib.Core.Logic.{inl, inr, ⊎-elim}
@@ -8,10 +8,11 @@ use mathlib.Core.List.{List}
 use native.Mathlib.Nat.{suc-mul, mul-le-mul-right}
 use native.Mathlib.Numerals.{add-one}
 use native.Mathlib.Omega.{arith}
+use borrow.Author.Tests.{le-ltb}
 use lib.ListN.{length, getD, set, length-set}
 use lib.Arith.{digits-lt}
 use Rattle.laws.proofs.Deciding.{same?}
-use Rattle.laws.proofs.Trading.{Paired, Traded, traded-start, traded-turn, traded-end}
+use Rattle.laws.proofs.Trading.{Paired, Trading, Traded, traded-start, traded-turn, traded-end}
 use Rattle.array.specs.Cells.{isSide, groups, cells, cell, partner, isBoard}
 use Rattle.array.proofs.Board.{side-known, group-of, place-of}
 use Rattle.light.specs.Lane.{swappedLane}
@@ -115,8 +116,24 @@ module _ {s g p : ℕ} {l₀ l : List ℕ} (z : Trades s g p l₀ l) where
     abbrev traded-list : List ℕ
     traded-list = set (set l (cell s g p) (getD l q 0)) q (getD l (cell s g p) 0)
 
-    later : cell s g p < q
-    later = rw (e, partner-at s g p h) (comes-later (groups s) g p (z .after) h)
+    pub trades-later : cell s g p < q
+    trades-later = rw (e, partner-at s g p h) (comes-later (groups s) g p (z .after) h)
+
+    -- a cell whose turn comes, and its partner, hold what they held at the first turn
+    pub trades-waiting : (old : List ℕ) → Turned s (cell s g 0) old l₀ → (getD l (cell s g p) 0 ≡ getD old (cell s g p) 0) × (getD l q 0 ≡ getD old (cell s p g) 0)
+    trades-waiting old t =
+        let inside : g < groups s = omega (arith, z .after) in
+        let c = z .so old (to-traded (omega (arith, digits-lt inside inside)) t) .trades in
+        let back : partner s (cell s p g) ≡ cell s g p = partner-at s p g inside in
+        let q-is : q ≡ cell s p g = e ∙ partner-at s g p h in
+        let late : cell s g p < cell s p g = comes-later (groups s) g p (z .after) h in (
+          waits c (cell s g p) (digits-lt inside h) (omega arith) (rw (partner-at s g p h) (omega (arith, late))),
+          ap (λ (n : ℕ). getD l n 0) q-is ∙ waits c (cell s p g) (digits-lt h inside) (omega (arith, late)) (rw back (omega arith)),
+        )
+      where
+        waits : Trading (cells s) (partner s) (cell s g p) (λ i. getD old i 0) (λ i. getD l i 0) → (i : ℕ) → i < cells s → cell s g p ≤ i → cell s g p ≤ partner s i
+            → getD l i 0 ≡ getD old i 0
+        waits c i u v w = rw (le-ltb (min i (partner s i)) (cell s g p) (omega arith)) at (c .turned i u)
 
     pub trades-turn : Trades s g (p + 1) l₀ traded-list
     trades-turn = record {
@@ -126,7 +143,7 @@ module _ {s g p : ℕ} {l₀ l : List ℕ} (z : Trades s g p l₀ l) where
       long = simp length-set (z .long);
       so = λ old t.
           let w : cell s g (p + 1) ≡ cell s g p + 1 = omega arith in
-          rw w (traded-turn (paired s (board-known s _ (z .board))) (digits-lt (omega (arith, z .after)) h) old l traded-list (z .so old t) e (inl (later, refl)));
+          rw w (traded-turn (paired s (board-known s _ (z .board))) (digits-lt (omega (arith, z .after)) h) old l traded-list (z .so old t) e (inl (trades-later, refl)));
     }
 
 -- the groups before g had their turn

@@ -1,106 +1,142 @@
--- The swap of a slot's lanes as it is made: turn after turn, each cell trades with its partner where that comes later, and its record and the partner's are counted.
+-- The swap of a slot's lanes as it is made: in each group the cells past its own place trade with their partners, and the records of both are counted.
 use Prim.Native.Nat.{ℕ, zero, suc, _+_, _*_, _≤_, _<_}
 use mathlib.Core.Path.{_≡_, refl, sym, ap, ap₂, subst, _∙_}
-use mathlib.Core.Logic.{_⊎_, ⊎-elim, inl, inr}
+use mathlib.Core.Logic.{⊎-elim}
 use mathlib.Core.Bool.{Bool, true, false, cond}
 use mathlib.Core.List.{List}
 use native.Mathlib.Numerals.{add-one}
 use native.Mathlib.Omega.{arith}
-use borrow.Author.Tests.{eq-eqb, ne-eqb}
+use borrow.Author.Tests.{eq-eqb, ne-eqb, lt-ltb, le-ltb}
 use lib.Dec.{eqb}
 use lib.ListN.{length, getD}
-use Rattle.laws.proofs.Deciding.{apart, same?}
-use Rattle.laws.proofs.Sums.{sum-cong}
-use Rattle.laws.proofs.Totals.{sum-few}
+use Rattle.laws.specs.Sums.{sum}
+use Rattle.laws.proofs.Deciding.{apart}
+use Rattle.laws.proofs.Sums.{sum-cong, sum-blocks}
+use Rattle.laws.proofs.Totals.{sum-zero, sum-few}
 use Rattle.laws.proofs.Tables.{entry-at, length-entries}
-use Rattle.laws.proofs.Pairing.{turnedSum, turned-start, turned-end, turned-trade, turned-skip, sum-away}
-use Rattle.laws.proofs.Trading.{Paired}
-use Rattle.array.specs.Cells.{isSide, cells, partner, isBoard}
-use Rattle.array.proofs.Board.{Side}
+use Rattle.laws.proofs.Pairing.{sum-away, sum-both}
+use Rattle.array.specs.Cells.{isSide, groups, cells, cell, partner, isBoard}
+use Rattle.array.proofs.Board.{Side, side-known}
 use Rattle.light.specs.Lane.{swappedLane}
 use Rattle.light.specs.Counts.{markCount, leavesOf, leavingOf}
 use Rattle.light.specs.Lanes.{Slots, slots, onBoard, each, swappedBy, swapsOn, Swapped}
-use Rattle.light.specs.Inside.{exchanged, Traded, Once, Times}
+use Rattle.light.specs.Inside.{Turned, exchanged, Traded, pairAt, pairsIn, SlotsTurned, Once, Times}
 use Rattle.light.proofs.Boards.{boards-known}
-use Rattle.light.proofs.Turning.{Turning, board-known, board-side, board-cells, paired, turning-from, turning-inside, turning-turn, turning-waits, turning-end}
+use Rattle.light.proofs.Turning.{board-known, board-side, paired}
+use Rattle.light.proofs.Groups.{partner-at, comes-later, Trades, trades-start, trades-turn, trades-waiting, trades-end, Rounds, rounds-start, rounds-board, rounds-turn, rounds-end}
 
 -- two slots' lanes are equal by each
 pub slots-ext : {w m a w′ m′ a′ : List ℕ} → w ≡ w′ → m ≡ m′ → a ≡ a′ → slots w m a ≡ slots w′ m′ a′
 slots-ext p q r = λ d. slots (p d) (q d) (r d)
 
--- a turn: nothing to trade, or both are exchanged
-pub traded-none : {j p : ℕ} {t : Slots} → p ≤ j → Traded j p t t 0
-traded-none h = record { trades = λ l. absurd (omega arith); waits = λ l. (refl, refl); few = omega arith }
-
-pub traded-some : {j p : ℕ} {w m a w′ m′ a′ : List ℕ} {r r₂ n : ℕ} → j < p → r ≡ markCount (getD m j 0) → r₂ ≡ markCount (getD m p 0) → r ≤ 1 → r₂ ≤ 1 → n ≡ r + r₂
+-- a trade, by what its parts say
+pub traded-some : {j p : ℕ} {w m a w′ m′ a′ : List ℕ} {r r₂ n : ℕ} → r ≡ markCount (getD m j 0) → r₂ ≡ markCount (getD m p 0) → r ≤ 1 → r₂ ≤ 1 → n ≡ r + r₂
     → w′ ≡ exchanged j p w → m′ ≡ exchanged j p m → a′ ≡ exchanged j p a → Traded j p (slots w m a) (slots w′ m′ a′) n
-traded-some h e f k l g x y z = record { trades = λ u. (slots-ext x y z, g ∙ ap₂ _+_ e f); waits = λ u. absurd (omega arith); few = omega arith }
+traded-some e f k l g x y z = record { lanes = slots-ext x y z; count = g ∙ ap₂ _+_ e f; few = omega arith }
 
--- a law of three lanes, by the law of one
-pub record Three (P : List ℕ → List ℕ → Type 0) (t u : Slots) : Type 0 where
-  pub words : P (t .words) (u .words)
-  pub marks : P (t .marks) (u .marks)
-  pub aims : P (t .aims) (u .aims)
+-- a slot's lanes on a board have its side
+pub slots-side : (s : ℕ) (t : Slots) → onBoard s t ≡ true → isSide s ≡ true
+slots-side s t b = board-side s (length (t .words)) (boards-known s (length (t .words)) (length (t .marks)) (length (t .aims)) b .words)
 
--- j turns of n were made on three lanes, and moved records counted
-pub record Walking (s n j p : ℕ) (t u : Slots) (moved : ℕ) : Type 0 where
-  pub lanes : Three (Turning s n j p) t u
-  pub few : moved ≤ 2 * j
-  pub so-far : moved ≡ turnedSum (cells s) (partner s) j (λ i. leavesOf (partner s i) i (getD (t .marks) i 0))
+-- in group g the cells before place p had their turn in three lanes, and their records and their partners' were counted
+pub record Sweeping (s g p : ℕ) (t u : Slots) (moved : ℕ) : Type 0 where
+  pub words : Trades s g p (t .words) (u .words)
+  pub marks : Trades s g p (t .marks) (u .marks)
+  pub aims : Trades s g p (t .aims) (u .aims)
+  pub few : moved ≤ 2 * p
+  pub so-far : (old : List ℕ) → Turned s (cell s g 0) old (t .marks) → moved ≡ sum p (pairAt s g old)
 
-pub walking-start : (s : ℕ) (t : Slots) → onBoard s t ≡ true → Walking s (length (t .words)) 0 0 t t 0
-walking-start s t h =
-    let z = boards-known s (length (t .words)) (length (t .marks)) (length (t .aims)) h in
+pub sweeping-start : {s g : ℕ} (t : Slots) → onBoard s t ≡ true → g < groups s → Sweeping s g (g + 1) t t 0
+sweeping-start {s} {g} t b h =
+    let z = boards-known s (length (t .words)) (length (t .marks)) (length (t .aims)) b in
     record {
-      lanes = record {
-        words = start (z .words) (t .words) (z .words);
-        marks = start (z .words) (t .marks) (z .marks);
-        aims = start (z .words) (t .aims) (z .aims);
-      };
+      words = trades-start (z .words) h;
+      marks = trades-start (z .marks) h;
+      aims = trades-start (z .aims) h;
       few = omega arith;
-      so-far = sym (turned-start (cells s) (partner s) _);
+      so-far = λ old o. sym (sum-zero (pairAt s g old) (g + 1) (λ k u. rw (le-ltb g k (omega arith))));
     }
-  where
-    start : isBoard s (length (t .words)) ≡ true → (l : List ℕ) → isBoard s (length l) ≡ true → Turning s (length (t .words)) 0 0 l l
-    start b l e = turning-from s (length (t .words)) l b (board-cells s (length l) e ∙ sym (board-cells s (length (t .words)) b))
 
-module _ {s n j p moved : ℕ} {t u : Slots} (z : Walking s n j p t u moved) (h : j < n) where
-  pairs : Paired (cells s) (partner s)
-  pairs = paired s (board-known s n (z .lanes .words .board))
+module _ {s g p moved : ℕ} {t u : Slots} (z : Sweeping s g p t u moved) (h : p < groups s) where
+  pub sweeping-step : {v : Slots} {q r : ℕ} → q ≡ partner s (cell s g p) → Traded (cell s g p) q u v r → Sweeping s g (p + 1) t v (moved + r)
+  sweeping-step {v} {q} {r} e y =
+      let l = z .marks .after in
+      rw (y .lanes)
+      (record {
+        words = trades-turn (z .words) h e;
+        marks = trades-turn (z .marks) h e;
+        aims = trades-turn (z .aims) h e;
+        few = omega (arith, z .few, y .few);
+        so-far = λ old o. let w = trades-waiting (z .marks) h e old o in
+            rw add-one (omega (arith, z .so-far old o, y .count, ap markCount (w .0), ap markCount (w .1), counted old));
+      })
+    where
+      counted : (old : List ℕ) → pairAt s g old p ≡ markCount (getD old (cell s g p) 0) + markCount (getD old (cell s p g) 0)
+      counted old = rw (lt-ltb g p (z .marks .after))
 
-  -- how many leave cell i, and when the walk counts them
-  abbrev leaves : ℕ → ℕ
-  leaves i = leavesOf (partner s i) i (getD (t .marks) i 0)
+pub sweeping-end : {s g p moved : ℕ} {t u : Slots} → groups s ≤ p → isSide s ≡ true → Sweeping s g p t u moved → SlotsTurned s g t u moved
+sweeping-end {s} {g} {p} {moved} h side z =
+    let e : p ≡ groups s = omega (arith, z .marks .upto) in
+    record {
+      words = trades-end (z .words) h;
+      marks = trades-end (z .marks) h;
+      aims = trades-end (z .aims) h;
+      count = λ old o. z .so-far old o ∙ ap (λ (n : ℕ). sum n (pairAt s g old)) e;
+      few = omega (arith, z .few, e, side-known s side .groups-few);
+    }
 
-  trade : j < p → turnedSum (cells s) (partner s) (j + 1) leaves ≡ moved + (markCount (getD (u .marks) j 0) + markCount (getD (u .marks) p 0))
-  trade l =
-      let up : j < partner s j = omega (arith, z .lanes .words .is) in
-      let back : partner s (partner s j) ≡ j = pairs .twice j (turning-inside (z .lanes .words) h) in
-      let tm = turning-waits (z .lanes .marks) h l in
-      let both : leaves j + leaves (partner s j) ≡ markCount (getD (u .marks) j 0) + markCount (getD (u .marks) p 0) =
-      rw (tm .0, tm .1, z .lanes .words .is, ne-eqb (partner s j) j (λ v. omega arith), ne-eqb (partner s (partner s j)) (partner s j) (λ v. omega arith)) in
-      turned-trade pairs (turning-inside (z .lanes .words) h) leaves up ∙ ap₂ _+_ (sym (z .so-far)) both
+-- the groups before g had their turn in three lanes
+pub record Walking (s g : ℕ) (t u : Slots) (moved : ℕ) : Type 0 where
+  pub words : Rounds s g (t .words) (u .words)
+  pub marks : Rounds s g (t .marks) (u .marks)
+  pub aims : Rounds s g (t .aims) (u .aims)
+  pub few : moved ≤ g * 128
+  pub so-far : moved ≡ sum g (λ k. pairsIn s k (t .marks))
 
-  skip : p ≤ j → turnedSum (cells s) (partner s) (j + 1) leaves ≡ moved
-  skip l = turned-skip pairs (turning-inside (z .lanes .words) h) leaves (omega (arith, z .lanes .words .is)) (λ v. rw (eq-eqb (partner s j) j v)) ∙ sym (z .so-far)
+pub walking-start : (s : ℕ) (t : Slots) → onBoard s t ≡ true → Walking s 0 t t 0
+walking-start s t b =
+    let z = boards-known s (length (t .words)) (length (t .marks)) (length (t .aims)) b in
+    record {
+      words = rounds-start s (t .words) (z .words);
+      marks = rounds-start s (t .marks) (z .marks);
+      aims = rounds-start s (t .aims) (z .aims);
+      few = omega arith;
+      so-far = refl;
+    }
 
-  -- a turn of every lane: its partner's entry, or nothing
-  turn : (f : List ℕ → List ℕ) (q : ℕ) → q ≡ partner s (j + 1) → ((l : List ℕ) → ((j < p) × (f l ≡ exchanged j p l)) ⊎ ((p ≤ j) × (f l ≡ l))) → Three (Turning s n (j + 1) q) t (each f u)
-  turn f q e g = record {
-    words = turning-turn (z .lanes .words) (f (u .words)) q h e (g (u .words));
-    marks = turning-turn (z .lanes .marks) (f (u .marks)) q h e (g (u .marks));
-    aims = turning-turn (z .lanes .aims) (f (u .aims)) q h e (g (u .aims));
-  }
+pub walking-board : {s g moved : ℕ} {t u : Slots} → Walking s g t u moved → onBoard s u ≡ true
+walking-board z = rw (rounds-board (z .words), rounds-board (z .marks), rounds-board (z .aims))
 
-  pub walking-step : {v : Slots} {q r moved′ : ℕ} → q ≡ partner s (j + 1) → Traded j p u v r → moved′ ≡ moved + r → Walking s n (j + 1) q t v moved′
-  walking-step {v} {q} {r} {moved′} e y o = record {
-    lanes = ⊎-elim
-        (λ l. rw (y .trades l .0) (turn (exchanged j p) q e (λ l′. inl (l, refl))))
-        (λ l. rw (y .waits l .0) (turn (λ l′. l′) q e (λ l′. inr (l, refl))))
-        (apart j p);
-    few = omega (arith, z .few, y .few);
-    so-far = o ∙ ⊎-elim (λ l. ap (λ (x : ℕ). moved + x) (y .trades l .1) ∙ sym (trade l)) (λ l. ap (λ (x : ℕ). moved + x) (y .waits l .1) ∙ omega (arith, skip l)) (apart j p);
-  }
+pub walking-step : {s g moved r : ℕ} {t u v : Slots} → g < groups s → Walking s g t u moved → SlotsTurned s g u v r → Walking s (g + 1) t v (moved + r)
+walking-step {s} {g} {moved} {r} {t} h z y = record {
+  words = rounds-turn (z .words) h (y .words);
+  marks = rounds-turn (z .marks) h (y .marks);
+  aims = rounds-turn (z .aims) h (y .aims);
+  few = omega (arith, z .few, y .few);
+  so-far = rw add-one (ap₂ _+_ (z .so-far) (y .count (t .marks) (z .marks .turns)));
+}
+
+-- the records of all pairs are those that leave their cells
+module _ {s : ℕ} (k : Side s) (m : List ℕ) where
+  abbrev marked : ℕ → ℕ → ℕ
+  marked g p = markCount (getD m (cell s g p) 0)
+
+  own-place : (g p : ℕ) → g < groups s → p < groups s → eqb (partner s (cell s g p)) (cell s g p) ≡ eqb p g
+  own-place g p h u =
+      rw (partner-at s g p u)
+      (⊎-elim
+      (λ l. rw (ne-eqb (cell s p g) (cell s g p) (λ e. omega (arith, comes-later (groups s) p g l h)), ne-eqb p g (λ e. omega arith)))
+      (λ l. ⊎-elim
+      (λ n. rw (ne-eqb (cell s p g) (cell s g p) (λ e. omega (arith, comes-later (groups s) g p n u)), ne-eqb p g (λ e. omega arith)))
+      (λ n. let e : p ≡ g = omega arith in rw (e, eq-eqb (cell s g g) (cell s g g) refl, eq-eqb g g refl))
+      (apart g p))
+      (apart p g))
+
+  pairs-leaving : sum (groups s) (λ g. pairsIn s g m) ≡ leavingOf s m
+  pairs-leaving =
+      sum-both (groups s) marked
+      ∙ sum-cong (groups s) (λ g h. sum-cong (groups s) (λ p u. ap (λ (b : Bool). cond b 0 (marked g p)) (sym (own-place g p h u))))
+      ∙ sym (sum-blocks (groups s) (groups s) (λ i. leavesOf (partner s i) i (getD m i 0)))
 
 leaving-few : (s : ℕ) → Side s → (m : List ℕ) → leavingOf s m ≤ 4096
 leaving-few s k m = omega (arith, k .cells-few, sum-few (λ i. leavesOf (partner s i) i (getD m i 0)) 1 (λ i. few (eqb (partner s i) i) (eqb (getD m i 0) 0)) (cells s))
@@ -110,14 +146,16 @@ leaving-few s k m = omega (arith, k .cells-few, sum-few (λ i. leavesOf (partner
     few false true = omega arith
     few false false = omega arith
 
--- all turns were made: each lane is swapped, and all records that leave are counted
-pub walking-end : {s n j p moved : ℕ} {t u : Slots} → n ≤ j → Walking s n j p t u moved → Once s t u moved
-walking-end {s} {n} {j} {moved = moved} {t = t} {u} h z =
-    let e : moved ≡ leavingOf s (t .marks) = z .so-far ∙ turned-end (cells s) j (partner s) _ (omega (arith, board-cells s n (z .lanes .words .board))) in
+-- all groups had their turn: each lane is swapped, and all records that leave are counted
+pub walking-end : {s g moved : ℕ} {t u : Slots} → groups s ≤ g → Walking s g t u moved → Once s t u moved
+walking-end {s} {g} {moved} {t} h z =
+    let k = board-known s (length (t .marks)) (z .marks .board) in
+    let full : g ≡ groups s = omega (arith, z .marks .upto) in
+    let e : moved ≡ leavingOf s (t .marks) = z .so-far ∙ ap (λ (n : ℕ). sum n (λ g. pairsIn s g (t .marks))) full ∙ pairs-leaving k (t .marks) in
     record {
-      lanes = slots-ext (turning-end (z .lanes .words) h) (turning-end (z .lanes .marks) h) (turning-end (z .lanes .aims) h);
+      lanes = slots-ext (rounds-end (z .words) h) (rounds-end (z .marks) h) (rounds-end (z .aims) h);
       count = e;
-      few = omega (arith, e, leaving-few s (board-known s n (z .lanes .words .board)) (t .marks));
+      few = omega (arith, e, leaving-few s k (t .marks));
     }
 
 -- a swap takes as many records from their cells as the one before it did

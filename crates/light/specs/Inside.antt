@@ -7,7 +7,8 @@ use lib.Dec.{eqb, ltb}
 use lib.ListN.{length, getD, set}
 use denote.Ref.{now}
 use Rattle.laws.specs.Lent.{Slice, Lent, old, new}
-use Rattle.array.specs.Cells.{cells, cell, partner}
+use Rattle.laws.specs.Sums.{sum}
+use Rattle.array.specs.Cells.{groups, cells, cell, partner}
 use Rattle.light.specs.Lane.{swappedLane}
 use Rattle.light.specs.Counts.{markCount, leavingOf}
 use Rattle.light.specs.Lanes.{Slots, slots, each, swappedBy, swapsOn}
@@ -40,14 +41,32 @@ exchanged j p l = set (set l j (getD l p 0)) p (getD l j 0)
 abbrev pub Exchanged : ℕ → ℕ → Lent → Type 0
 Exchanged j p l = new l ≡ exchanged j p (old l)
 
--- the turn of cell j, whose partner is p, was made
+-- cells j and p of a slot's lanes traded, and their records were counted
 pub record Traded (j p : ℕ) (t u : Slots) (r : ℕ) : Type 0 where
-  pub trades : j < p → (u ≡ each (exchanged j p) t) × (r ≡ markCount (getD (t .marks) j 0) + markCount (getD (t .marks) p 0))
-  pub waits : p ≤ j → (u ≡ t) × (r ≡ 0)
+  pub lanes : u ≡ each (exchanged j p) t
+  pub count : r ≡ markCount (getD (t .marks) j 0) + markCount (getD (t .marks) p 0)
   pub few : r ≤ 2
 
 abbrev pub TradedSlot : ℕ → ℕ → Lent → Lent → Lent → ℕ → Type 0
 TradedSlot j p w m a r = Traded j p (slots (old w) (old m) (old a)) (slots (new w) (new m) (new a)) r
+
+-- how many records there are in cell p of group g and in its partner, where p is past g
+abbrev pub pairAt : ℕ → ℕ → List ℕ → ℕ → ℕ
+pairAt s g marks p = cond (ltb g p) (markCount (getD marks (cell s g p) 0) + markCount (getD marks (cell s p g) 0)) 0
+
+abbrev pub pairsIn : ℕ → ℕ → List ℕ → ℕ
+pairsIn s g marks = sum (groups s) (pairAt s g marks)
+
+-- the turn of group g in a slot's lanes, whatever they held at the first turn
+pub record SlotsTurned (s g : ℕ) (t u : Slots) (r : ℕ) : Type 0 where
+  pub words : GroupTurned s g (t .words) (u .words)
+  pub marks : GroupTurned s g (t .marks) (u .marks)
+  pub aims : GroupTurned s g (t .aims) (u .aims)
+  pub count : (old : List ℕ) → Turned s (cell s g 0) old (t .marks) → r ≡ pairsIn s g old
+  pub few : r ≤ 128
+
+abbrev pub TurnedSlots : ℕ → ℕ → Lent → Lent → Lent → ℕ → Type 0
+TurnedSlots s g w m a r = SlotsTurned s g (slots (old w) (old m) (old a)) (slots (new w) (new m) (new a)) r
 
 -- one swap of a slot's lanes
 pub record Once (s : ℕ) (t u : Slots) (r : ℕ) : Type 0 where

@@ -4,13 +4,13 @@ use laws::counted;
 use links::links;
 ghost use mathlib.Core.Path.{_≡_};
 ghost use mathlib.Core.Bool.{true};
-ghost use Prim.Native.Nat.{ℕ, _+_, _≤_, _<_};
+ghost use Prim.Native.Nat.{_≤_, _<_};
 ghost use lib.ListN.{length, getD};
 ghost use Rattle.array.specs.Cells.{isBoard, isSide, groups, cells, cell, partner};
 ghost use Rattle.light.specs.Lane.{swappedLane};
 ghost use Rattle.light.specs.Counts.{markCount};
 ghost use Rattle.light.specs.Lanes.{areSlots, areLanes, onBoard, SwappedLanes};
-ghost use Rattle.light.specs.Inside.{Listed, GroupTurned, lent, HasCell, Exchanged, TradedSlot, SwappedOnce, TradedTimes};
+ghost use Rattle.light.specs.Inside.{Listed, GroupTurned, lent, HasCell, Exchanged, TradedSlot, TurnedSlots, SwappedOnce, TradedTimes};
 
 // Three lanes of these lengths are those of a board's front slots, or of its spare ones.
 fn are_slots(side: usize, words: usize, marks: usize, aims: usize) -> bool
@@ -47,23 +47,6 @@ fn wide(x: u16) -> usize
     ensures { λ r. ⌜ r ≡ x ⌝ }
 {
     x as usize
-}
-
-// The partner of cell j + 1, from p, that of cell j: by the link list as far as it goes, and else by going on one place, or one group.
-pub(crate) fn next(side: usize, list: &[u16], j: usize, p: usize) -> usize
-    requires { ⌜ isSide side ≡ true ⌝ }
-    requires { ⌜ Listed side (now list) ⌝ }
-    requires { ⌜ (j < cells side) × (p ≡ partner side j) ⌝ }
-    ensures { λ r. ⌜ r ≡ partner side (j + 1) ⌝ }
-{
-    let k = j + 1;
-    if k < list.len() {
-        return wide(list[k]);
-    }
-    let groups = side * side;
-    let on = p + groups;
-    let cells = groups * groups;
-    if on < cells { on } else { on - cells + 1 }
 }
 
 // The partner of cell p of group g: by the link list, where it has every cell, and else cell g of group p.
@@ -151,16 +134,38 @@ fn exchange(j: usize, p: usize, words: &mut [u32], marks: &mut [u8], aims: &mut 
     aims[p] = aim;
 }
 
-// The turn of cell j: it trades with its partner p where that comes later. How many records are in another cell then.
+// Cells j and p trade what they hold in one slot; how many records are in another cell then.
 fn trade_slot(j: usize, p: usize, words: &mut [u32], marks: &mut [u8], aims: &mut [u16]) -> usize
-    requires { ⌜ HasCell j words marks aims × HasCell p words marks aims ⌝ }
+    requires { ⌜ (j < p) × HasCell p words marks aims ⌝ }
     ensures { λ r. ⌜ TradedSlot j p words marks aims r ⌝ }
 {
-    if p <= j {
-        return 0;
-    }
     let moved = one(marks[j]) + one(marks[p]);
     exchange(j, p, words, marks, aims);
+    moved
+}
+
+// The turn of group g in one slot; how many records are in another cell then.
+fn trade_group_slots(
+    side: usize,
+    list: &[u16],
+    g: usize,
+    words: &mut [u32],
+    marks: &mut [u8],
+    aims: &mut [u16],
+) -> usize
+    requires { ⌜ onBoard side (lent words marks aims) ≡ true ⌝ }
+    requires { ⌜ Listed side (now list) ⌝ }
+    requires { ⌜ g < groups side ⌝ }
+    ensures { λ r. ⌜ TurnedSlots side g words marks aims r ⌝ }
+{
+    let groups = side * side;
+    let mut moved: usize = 0;
+    let mut p: usize = g + 1;
+    while p < groups {
+        let q = across(side, list, g, p);
+        moved += trade_slot(g * groups + p, q, words, marks, aims);
+        p += 1;
+    }
     moved
 }
 
@@ -176,14 +181,12 @@ fn trade_slots(
     requires { ⌜ Listed side (now list) ⌝ }
     ensures { λ r. ⌜ SwappedOnce side words marks aims r ⌝ }
 {
-    let n = words.len();
+    let groups = side * side;
     let mut moved: usize = 0;
-    let mut p: usize = 0;
-    let mut j: usize = 0;
-    while j < n {
-        moved += trade_slot(j, p, words, marks, aims);
-        p = next(side, list, j, p);
-        j += 1;
+    let mut g: usize = 0;
+    while g < groups {
+        moved += trade_group_slots(side, list, g, words, marks, aims);
+        g += 1;
     }
     moved
 }

@@ -1,11 +1,8 @@
 use mathlib.Core.Path.{refl}
-use Rattle.light.proofs.Walking.{traded-none, traded-some}
+use Rattle.light.proofs.Walking.{traded-some}
 use borrow.Author.Needs.{needs}
 use Rattle.light.proofs.trade_slot.Statement.{statement}
 use Rattle.light.proofs.trade_slot.Tie as tie
-
-returns : tie.Need-returns
-returns c = traded-none (c .if1 .taken)
 
 slice-read-one : tie.Need-slice-read-one
 slice-read-one c = search needs
@@ -34,22 +31,21 @@ same-length-2 c = search needs
 same-length-3 : tie.Need-same-length-3
 same-length-3 c = search needs
 
-returns-2 : tie.Need-returns-2
-returns-2 c =
-    let e = c .before .before .before .before .before .before in
+returns : tie.Need-returns
+returns c =
+    let b = c .before .before .before .before .before in
+    let e = b .before in
     let o = e .before .before .before .before in
     let o₂ = o .before .before in
-    let i = o₂ .before .before in
     let x = e .exchange .ensures in
     let y = o₂ .one .ensures in
     let z = o .one2 .ensures in
-    traded-some (i .if1 .left) (y .0) (z .0) (y .1) (z .1) refl (x .0) (x .1 .0) (x .1 .1)
+    traded-some (y .0) (z .0) (y .1) (z .1) refl (x .0) (x .1 .0) (x .1 .1)
 
 pub trade-slot-spec : {M : Type 1} → statement M
 trade-slot-spec =
     tie.close
     (tie.spec
-    returns
     slice-read-one
     one-requires
     slice-read-one-2
@@ -59,4 +55,4 @@ trade-slot-spec =
     same-length
     same-length-2
     same-length-3
-    returns-2)
+    returns)

@@ -1,71 +1,74 @@
 use Prim.Native.Nat.{_-_}
-use mathlib.Core.Path.{refl, sym, _∙_}
 use native.Mathlib.Omega.{arith}
-use lib.ListN.{length}
+use Rattle.array.proofs.Board.{side-known}
 use Rattle.light.specs.Lanes.{slots}
-use Rattle.light.proofs.Turning.{board-side, turning-few, turning-long, turning-inside, turning-partner}
-use Rattle.light.proofs.Walking.{Walking, walking-start, walking-step, walking-end}
+use Rattle.light.proofs.Groups.{rounds-long}
+use Rattle.light.proofs.Walking.{Walking, walking-start, walking-board, walking-step, walking-end, slots-side}
 use Rattle.light.proofs.trade_slots.Statement.{statement}
 use Rattle.light.proofs.trade_slots.Tie as tie
 
 abbrev Inv-loop : tie.InvT-loop
-Inv-loop side list words₀ marks₀ aims₀ n moved₀ p₀ j₀ words marks aims moved p j = Walking side n j p (slots words₀ marks₀ aims₀) (slots words marks aims) moved
+Inv-loop side list words₀ marks₀ aims₀ groups moved₀ g₀ words marks aims moved g = Walking side g (slots words₀ marks₀ aims₀) (slots words marks aims) moved
 
 abbrev μ-loop : tie.MeasureT-loop
-μ-loop side list words₀ marks₀ aims₀ n moved₀ p₀ j₀ words marks aims moved p j = n - j
+μ-loop side list words₀ marks₀ aims₀ groups moved₀ g₀ words marks aims moved g = groups - g
+
+mul-groups : tie.Need-mul-groups Inv-loop μ-loop
+mul-groups c =
+    let s = c .before .before .before .before in
+    let a = s .args in
+    omega (arith, side-known (a .side) (slots-side (a .side) (slots (a .words .now) (a .marks .now) (a .aims .now)) (s .pre .0)))
 
 loop-holds : tie.Need-loop-holds Inv-loop μ-loop
-loop-holds c = let s = c .before .before .before .before in walking-start (s .args .side) _ (s .pre .0)
+loop-holds c =
+    let s = c .before .before .before .before in
+    walking-start (s .args .side) _ (s .pre .0)
 
-trade-slot-requires : tie.Need-trade-slot-requires Inv-loop μ-loop
-trade-slot-requires c κs = let z = c .before .before .before .before .loop .inv .lanes in
-    let l = c .before .before .before .loop-test .taken in
-    let u = turning-partner (z .words) l in
-    let w = turning-long (z .words) in
-    let m = turning-long (z .marks) in
-    let a = turning-long (z .aims) in
-    ((omega (arith, w, l), (omega (arith, m, l), omega (arith, a, l))), (omega (arith, w, u), (omega (arith, m, u), omega (arith, a, u))))
+trade-group-slots-requires : tie.Need-trade-group-slots-requires Inv-loop μ-loop
+trade-group-slots-requires c κs =
+    let s = c .before .before .before .before .before .before .before .before .before in
+    (walking-board (c .before .before .before .before .loop .inv), (s .pre .1, c .before .before .before .loop-test .taken))
 
 add-moved : tie.Need-add-moved Inv-loop μ-loop
 add-moved c =
-    let t = c .before .before .before .before .before .before in
-    let l = t .before .before .before .before in
-    let l₂ = l .before in
-    omega (arith, l₂ .loop .inv .few, t .trade-slot .ensures .few, turning-few (l₂ .loop .inv .lanes .words), l .loop-test .taken)
-
-next-requires : tie.Need-next-requires Inv-loop μ-loop
-next-requires c κs =
-    let l = c .before .before .before .before .before .before .before .before .before .before in
-    let l₂ = l .before in
-    let b = l₂ .before .before .before .before in
-    let z = l₂ .loop .inv .lanes .words in
+    let tgs = c .before .before .before .before .before .before in
+    let t = tgs .before .before .before .before in
+    let l = t .before in
+    let b = l .before .before .before .before in
     let s = b .before in
-    (board-side (s .args .side) (length (s .args .words .now)) (z .board), (s .pre .1, (turning-inside z (l .loop-test .taken), z .is)))
+    let a = s .args in
+    let k = side-known (a .side) (slots-side (a .side) (slots (a .words .now) (a .marks .now) (a .aims .now)) (s .pre .0)) in
+    omega (arith, l .loop .inv .few, tgs .trade-group-slots .ensures .few, t .loop-test .taken, k .groups-few)
 
-add-j : tie.Need-add-j Inv-loop μ-loop
-add-j c =
-    let l = c .before .before .before .before .before .before .before .before .before .before .before in
-    let l₂ = l .before in
-    omega (arith, turning-few (l₂ .loop .inv .lanes .words), l .loop-test .taken)
+add-g : tie.Need-add-g Inv-loop μ-loop
+add-g c =
+    let t = c .before .before .before .before .before .before .before .before .before .before in
+    let b = t .before .before .before .before .before in
+    let s = b .before in
+    let a = s .args in
+    let k = side-known (a .side) (slots-side (a .side) (slots (a .words .now) (a .marks .now) (a .aims .now)) (s .pre .0)) in
+    omega (arith, t .loop-test .taken, k .groups-few)
 
 loop-less : tie.Need-loop-less Inv-loop μ-loop
-loop-less c = omega (arith, c .before .before .before .before .before .before .before .before .before .before .before .loop-test .taken)
+loop-less c =
+    let t = c .before .before .before .before .before .before .before .before .before .before in
+    omega (arith, t .loop-test .taken)
 
 loop-again : tie.Need-loop-again Inv-loop μ-loop
 loop-again c =
-    let t = c .before .before .before .before .before .before .before in
-    let l = t .before .before .before .before in
-    let l₂ = l .before in
-    walking-step (l₂ .loop .inv) (l .loop-test .taken) (c .next .ensures) (t .trade-slot .ensures) refl
+    let tgs = c .before .before .before .before .before .before in
+    let t = tgs .before .before .before .before in
+    let l = t .before in
+    walking-step (t .loop-test .taken) (l .loop .inv) (tgs .trade-group-slots .ensures)
 
 same-length : tie.Need-same-length Inv-loop μ-loop
-same-length c = let z = c .before .loop .inv .lanes .words in turning-long z ∙ sym (z .long)
+same-length c = rounds-long (c .before .loop .inv .words)
 
 same-length-2 : tie.Need-same-length-2 Inv-loop μ-loop
-same-length-2 c = let z = c .before .loop .inv .lanes .marks in turning-long z ∙ sym (z .long)
+same-length-2 c = rounds-long (c .before .loop .inv .marks)
 
 same-length-3 : tie.Need-same-length-3 Inv-loop μ-loop
-same-length-3 c = let z = c .before .loop .inv .lanes .aims in turning-long z ∙ sym (z .long)
+same-length-3 c = rounds-long (c .before .loop .inv .aims)
 
 returns : tie.Need-returns Inv-loop μ-loop
 returns c = walking-end (c .loop-test .left) (c .before .loop .inv)
@@ -76,11 +79,11 @@ trade-slots-spec =
     (tie.spec
     Inv-loop
     μ-loop
+    mul-groups
     loop-holds
-    trade-slot-requires
+    trade-group-slots-requires
     add-moved
-    next-requires
-    add-j
+    add-g
     loop-less
     loop-again
     same-length
