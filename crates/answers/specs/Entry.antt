@@ -26,9 +26,9 @@ abbrev pub inFront : List ℕ → List ℕ → List ℕ
 inFront numbers log = numbers ++ drop (length numbers) log
 
 -- these numbers were written into a log
-abbrev pub Written : List ℕ → Lent → Type 0
-Written numbers log = new log ≡ inFront numbers (old log)
+abbrev pub LogWritten : List ℕ → Lent → Type 0
+LogWritten numbers log = new log ≡ inFront numbers (old log)
 
 -- the codes of a list were
-abbrev pub Logged : List Run → Lent → Type 0
-Logged list log = Written (codes list) log
+abbrev pub CodesLogged : List Run → Lent → Type 0
+CodesLogged list log = LogWritten (codes list) log

@@ -11,16 +11,16 @@ use Rattle.array.specs.declared.moves.LogLine.{LogLine}
 use Rattle.array.specs.declared.moves.Logged.{Logged}
 use Rattle.array.specs.declared.moves.Logged.the-variants.{Line, NoMove}
 use Rattle.answertext.specs.declared.Totals.{Totals}
-use Rattle.answertext.specs.Log.{lineOf, electronicOf, opticalOf, movedOf, column, totalsOf, addedTo}
+use Rattle.answertext.specs.Log.{lineOf, electronicOf, opticalOf, movedOf, columnSum, totalsOf, addedTo}
 
 module _ (l : ℕ → Logged) (n : ℕ) where
-  column-next : (value : Logged → ℕ) (v : ℕ) → v ≡ value (l n) → (column value l n + v) % 2 ^ 64 ≡ column value l (suc n)
-  unfolding column
-  column-next value v e = mod-add-mod (sum n (λ k. value (l k))) (2 ^ 64) v ∙ rw e
+  column-sum-next : (value : Logged → ℕ) (v : ℕ) → v ≡ value (l n) → (columnSum value l n + v) % 2 ^ 64 ≡ columnSum value l (suc n)
+  unfolding columnSum
+  column-sum-next value v e = mod-add-mod (sum n (λ k. value (l k))) (2 ^ 64) v ∙ rw e
 
-  column-kept : (value : Logged → ℕ) → value (l n) ≡ 0 → column value l n ≡ column value l (suc n)
-  unfolding column
-  column-kept value e =
+  column-sum-kept : (value : Logged → ℕ) → value (l n) ≡ 0 → columnSum value l n ≡ columnSum value l (suc n)
+  unfolding columnSum
+  column-sum-kept value e =
       let f : sum n (λ k. value (l k)) ≡ sum n (λ k. value (l k)) + value (l n) = omega arith in
       rw (← f)
 
@@ -29,8 +29,8 @@ module _ (l : ℕ → Logged) (n : ℕ) where
   totals-next = go (l n) refl
     where
       go : (d : Logged) → l n ≡ d → addedTo (totalsOf l n) (l n) ≡ totalsOf l (suc n)
-      go (Line k) e = rw e (rw (column-next electronicOf (electronicIn (k .step) 1) (rw e), column-next opticalOf (swapsIn (k .step) 1) (rw e), column-next movedOf (k .moved) (rw e)))
-      go NoMove e = rw e (rw (column-kept electronicOf (rw e), column-kept opticalOf (rw e), column-kept movedOf (rw e)))
+      go (Line k) e = rw e (rw (column-sum-next electronicOf (electronicIn (k .step) 1) (rw e), column-sum-next opticalOf (swapsIn (k .step) 1) (rw e), column-sum-next movedOf (k .moved) (rw e)))
+      go NoMove e = rw e (rw (column-sum-kept electronicOf (rw e), column-sum-kept opticalOf (rw e), column-sum-kept movedOf (rw e)))
 
 -- one line more, in the code's terms
 pub added-none : (t : Totals) (logged : Logged) → logged ≡ NoMove → t ≡ addedTo t logged
@@ -48,7 +48,7 @@ pub record Totalling (l : ℕ → Logged) (n : ℕ) (t : Totals) (i : ℕ) : Typ
   pub total : t ≡ totalsOf l i
 
 pub totals-begin : (l : ℕ → Logged) (n : ℕ) → Totalling l n (record { electronic = 0; optical = 0; moved = 0 }) 0
-totals-begin l n = record { so-far = omega arith; total = unfold totalsOf column in refl }
+totals-begin l n = record { so-far = omega arith; total = unfold totalsOf columnSum in refl }
 
 module _ (codes moved : List ℕ) {n : ℕ} {t : Totals} {i : ℕ} (p : Totalling (lineOf codes moved) n t i) where
   pub totals-more : i < n → {logged : Logged} → logged ≡ lineOf codes moved i → {t′ : Totals} → t′ ≡ addedTo t logged → Totalling (lineOf codes moved) n t′ (i + 1)

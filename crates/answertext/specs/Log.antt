@@ -31,11 +31,11 @@ movedOf (Line l) = l .moved
 movedOf NoMove = 0
 
 -- the sum of a column over n lines; a total takes 64 bits
-unfoldable pub column : (Logged → ℕ) → (ℕ → Logged) → ℕ → ℕ
-column value l n = sum n (λ k. value (l k)) % 2 ^ 64
+unfoldable pub columnSum : (Logged → ℕ) → (ℕ → Logged) → ℕ → ℕ
+columnSum value l n = sum n (λ k. value (l k)) % 2 ^ 64
 
 unfoldable pub totalsOf : (ℕ → Logged) → ℕ → Totals
-totalsOf l n = record { electronic = column electronicOf l n; optical = column opticalOf l n; moved = column movedOf l n }
+totalsOf l n = record { electronic = columnSum electronicOf l n; optical = columnSum opticalOf l n; moved = columnSum movedOf l n }
 
 -- totals with one line more
 unfoldable pub addedTo : Totals → Logged → Totals

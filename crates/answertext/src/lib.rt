@@ -83,7 +83,7 @@ fn added(totals: Totals, logged: Logged) -> Totals
     }
 }
 
-fn sum_up(codes: &[u8], moved: &[u16], n: usize) -> Totals
+fn totals_of(codes: &[u8], moved: &[u16], n: usize) -> Totals
     requires { ⌜ n ≤ length (now codes) ⌝ }
     requires { ⌜ n ≤ length (now moved) ⌝ }
     ensures { λ r. ⌜ r ≡ totalsOf (lineOf (now (codes .entry)) (now (moved .entry))) n ⌝ }
@@ -134,7 +134,7 @@ pub fn answer(out: &mut [u8], codes: &[u8], moved: &[u16], words: &[u32]) -> usi
     let n = least(codes.len(), moved.len());
     let first = put(out, 0, b"move\tkind\tway\tmoved\n");
     let all = put_moves(out, first, codes, moved, n);
-    let records = put_all(out, all, sum_up(codes, moved, n));
+    let records = put_all(out, all, totals_of(codes, moved, n));
     put_records(out, records, words)
 }
 

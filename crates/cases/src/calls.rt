@@ -1,6 +1,6 @@
 // Each entry is called here and nowhere else; its run is printed: what is called, its answer, and what it leaves.
-use crate::frames::cells;
-use crate::frames::within;
+use crate::frames::lane_cells;
+use crate::frames::lane_within;
 use crate::names::operation_name;
 use crate::names::run_name;
 use crate::show;
@@ -32,14 +32,14 @@ fn on_words(operation: Operation, side: usize, words: &mut [u32], codes: &mut [u
 }
 
 // A run of records, whole or up to a cut.
-pub(crate) enum Run {
+pub(crate) enum RecordsRun {
     Whole(Trip),
     Cut(Trip, usize),
 }
 
 // The lanes that are numbered 2 are the spare ones; the log holds the codes.
 fn on_records(
-    run: Run,
+    run: RecordsRun,
     side: usize,
     words: &mut [u32],
     marks: &mut [u8],
@@ -51,7 +51,7 @@ fn on_records(
     moved: &mut [u16],
 ) -> Answer {
     match run {
-        Run::Whole(trip) => match trip {
+        RecordsRun::Whole(trip) => match trip {
             Trip::Concentrate => {
                 records::concentrate(side, words, marks, aims, words2, marks2, aims2, log, moved)
             }
@@ -59,7 +59,7 @@ fn on_records(
                 records::distribute(side, words, marks, aims, words2, marks2, aims2, log, moved)
             }
         },
-        Run::Cut(trip, cut) => match trip {
+        RecordsRun::Cut(trip, cut) => match trip {
             Trip::Concentrate => {
                 records::concentrate_cut(side, cut, words, marks, aims, words2, marks2, aims2)
             }
@@ -72,15 +72,15 @@ fn on_records(
 
 // A run on the lanes of a board, with spare lanes of 7s, and logs of 9s that are lent so far.
 pub(crate) fn records_run(
-    run: Run,
+    run: RecordsRun,
     side: usize,
     log: usize,
     mut words: [u32; 4096],
     mut marks: [u8; 4096],
     mut aims: [u16; 4096],
 ) {
-    let n = cells(side);
-    let m = within(log);
+    let n = lane_cells(side);
+    let m = lane_within(log);
     let mut spare_words = [7u32; 4096];
     let mut spare_marks = [7u8; 4096];
     let mut spare_aims = [7u16; 4096];
@@ -108,8 +108,8 @@ pub(crate) fn records_run(
 
 // Rank on the marks of a board, with a log of 9s: gives the aims as well.
 pub(crate) fn rank_run(side: usize, log: usize, marks: [u8; 4096]) -> [u16; 4096] {
-    let n = cells(side);
-    let m = within(log);
+    let n = lane_cells(side);
+    let m = lane_within(log);
     let mut aims = [9u16; 4096];
     let mut codes = [9u8; 4096];
     text(b"rank");
@@ -128,8 +128,8 @@ pub(crate) fn words_run(
     log: usize,
     mut words: [u32; 4096],
 ) {
-    let n = within(lane);
-    let m = within(log);
+    let n = lane_within(lane);
+    let m = lane_within(log);
     let mut codes = [9u8; 4096];
     operation_name(operation);
     show::lent(side, n, m);
@@ -140,7 +140,7 @@ pub(crate) fn words_run(
 
 // The stretch of a group as it is handed back, and all words.
 pub(crate) fn group_run(side: usize, group: usize, lane: usize, words: [u32; 4096]) {
-    let n = within(lane);
+    let n = lane_within(lane);
     text(b"group words");
     value(group as u64);
     show::lent(side, n, 0);

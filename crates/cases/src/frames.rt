@@ -3,7 +3,7 @@ use std::num::wrapping_add_u32;
 ghost use Prim.Native.Nat.{_≤_};
 
 // A side that is refused gets the lanes of side 8.
-pub(crate) fn cells(side: usize) -> usize
+pub(crate) fn lane_cells(side: usize) -> usize
     ensures { λ r. ⌜ (1 ≤ r) × (r ≤ 4096) ⌝ }
 {
     match side {
@@ -19,14 +19,14 @@ pub(crate) fn cells(side: usize) -> usize
 }
 
 // No lane is longer than this.
-pub(crate) fn within(n: usize) -> usize
+pub(crate) fn lane_within(n: usize) -> usize
     ensures { λ r. ⌜ r ≤ 4096 ⌝ }
 {
     if n < 4096 { n } else { 4096 }
 }
 
 // Words that count up from the first, modulo 2^32.
-pub(crate) fn counted(first: u32) -> [u32; 4096] {
+pub(crate) fn counting_up(first: u32) -> [u32; 4096] {
     let mut words = [0u32; 4096];
     let mut word = first;
     let mut i: usize = 0;
@@ -45,7 +45,7 @@ fn mark(mut marks: [u8; 4096], cell: usize) -> [u8; 4096] {
     marks
 }
 
-pub(crate) fn marked(a: usize, b: usize, c: usize) -> [u8; 4096] {
+pub(crate) fn marks_at(a: usize, b: usize, c: usize) -> [u8; 4096] {
     mark(mark(mark([0u8; 4096], a), b), c)
 }
 
@@ -86,7 +86,7 @@ pub(crate) struct Gathered {
 
 // Those of the marked cells of a board. What is written for a cell that is not marked is overwritten by the next.
 pub(crate) fn gather(side: usize, marks: [u8; 4096]) -> Gathered {
-    let n = cells(side);
+    let n = lane_cells(side);
     let mut front = [0u8; 4096];
     let mut homes = [0u16; 4096];
     let mut rank: usize = 0;

@@ -11,6 +11,6 @@ fn main() {
     on_words::starred();
     on_records::edges();
     on_words::at_every_side();
-    on_words::refused();
+    on_words::refused_words();
     on_records::frames();
 }

@@ -1,6 +1,6 @@
 // What is called, as it is printed.
 use crate::calls::Operation;
-use crate::calls::Run;
+use crate::calls::RecordsRun;
 use crate::show::distance;
 use crate::show::text;
 use crate::show::value;
@@ -57,9 +57,9 @@ fn cut_name(trip: Trip, cut: usize) {
     value(cut as u64);
 }
 
-pub(crate) fn run_name(run: Run) {
+pub(crate) fn run_name(run: RecordsRun) {
     match run {
-        Run::Whole(trip) => trip_name(trip),
-        Run::Cut(trip, cut) => cut_name(trip, cut),
+        RecordsRun::Whole(trip) => trip_name(trip),
+        RecordsRun::Cut(trip, cut) => cut_name(trip, cut),
     }
 }

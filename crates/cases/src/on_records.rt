@@ -1,11 +1,11 @@
 // Rank, concentrate and distribute.
-use crate::calls::Run;
+use crate::calls::RecordsRun;
 use crate::calls::rank_run;
 use crate::calls::records_run;
 use crate::frames::Gathered;
-use crate::frames::counted;
+use crate::frames::counting_up;
 use crate::frames::gather;
-use crate::frames::marked;
+use crate::frames::marks_at;
 use crate::frames::marks_of;
 use crate::show::text;
 use lists::Trip;
@@ -20,8 +20,8 @@ fn both(
     marks: [u8; 4096],
     aims: [u16; 4096],
 ) {
-    records_run(Run::Cut(trip, 1), side, 0, words, marks, aims);
-    records_run(Run::Whole(trip), side, log, words, marks, aims);
+    records_run(RecordsRun::Cut(trip, 1), side, 0, words, marks, aims);
+    records_run(RecordsRun::Whole(trip), side, log, words, marks, aims);
 }
 
 fn concentrated(side: usize, log: usize, words: [u32; 4096], marks: [u8; 4096]) {
@@ -41,23 +41,23 @@ fn job() {
     words[6] = 71;
     words[11] = 72;
     text(b"case\tthe job of the scope\n");
-    concentrated(2, 9, words, marked(1, 6, 11));
+    concentrated(2, 9, words, marks_at(1, 6, 11));
 }
 
 fn distributed() {
-    let front = gather(2, marked(1, 6, 11));
+    let front = gather(2, marks_at(1, 6, 11));
     let marks = front.marks;
     let aims = front.aims;
     text(b"case\tdistribute to 1, 6, 11\n");
-    both(Trip::Distribute, 2, 9, counted(100), marks, aims);
+    both(Trip::Distribute, 2, 9, counting_up(100), marks, aims);
 }
 
 pub(crate) fn starred() {
-    let words = counted(100);
+    let words = counting_up(100);
     text(b"case\tside 1, one cell marked\n");
     concentrated(1, 2, words, [1u8; 4096]);
     text(b"case\tside 2, marks at 0, 4, 5\n");
-    concentrated(2, 9, words, marked(0, 4, 5));
+    concentrated(2, 9, words, marks_at(0, 4, 5));
     job();
     distributed();
     text(b"case\tside 2, all marked\n");
@@ -67,21 +67,21 @@ pub(crate) fn starred() {
 }
 
 // All cells of side 8 marked, each aimed at itself, which is its rank: concentrate and distribute take them.
-fn all_marked(run: Run, side: usize, log: usize, aims: [u16; 4096]) {
-    records_run(run, side, log, counted(1), [1u8; 4096], aims);
+fn all_marked(run: RecordsRun, side: usize, log: usize, aims: [u16; 4096]) {
+    records_run(run, side, log, counting_up(1), [1u8; 4096], aims);
 }
 
 fn at_side(side: usize, aims: [u16; 4096]) {
     rank_run(side, 51, [1u8; 4096]);
-    all_marked(Run::Whole(Trip::Concentrate), side, 51, aims);
-    all_marked(Run::Whole(Trip::Distribute), side, 51, aims);
-    all_marked(Run::Cut(Trip::Concentrate, 0), side, 0, aims);
-    all_marked(Run::Cut(Trip::Distribute, 0), side, 0, aims);
+    all_marked(RecordsRun::Whole(Trip::Concentrate), side, 51, aims);
+    all_marked(RecordsRun::Whole(Trip::Distribute), side, 51, aims);
+    all_marked(RecordsRun::Cut(Trip::Concentrate, 0), side, 0, aims);
+    all_marked(RecordsRun::Cut(Trip::Distribute, 0), side, 0, aims);
 }
 
 fn at_cut(cut: usize, aims: [u16; 4096]) {
-    all_marked(Run::Cut(Trip::Concentrate, cut), 8, 0, aims);
-    all_marked(Run::Cut(Trip::Distribute, cut), 8, 0, aims);
+    all_marked(RecordsRun::Cut(Trip::Concentrate, cut), 8, 0, aims);
+    all_marked(RecordsRun::Cut(Trip::Distribute, cut), 8, 0, aims);
 }
 
 // The sides and the cuts at the edge of what is accepted.
@@ -100,7 +100,7 @@ fn states(trip: Trip, side: usize, words: [u32; 4096], marks: [u8; 4096], aims: 
 {
     let mut cut: usize = 0;
     while cut + 5 <= 7 * side {
-        records_run(Run::Cut(trip, cut), side, 0, words, marks, aims);
+        records_run(RecordsRun::Cut(trip, cut), side, 0, words, marks, aims);
         cut += 1;
     }
 }
@@ -110,7 +110,7 @@ fn states_back(side: usize, front: Gathered)
 {
     let marks = front.marks;
     let aims = front.aims;
-    states(Trip::Distribute, side, counted(1000), marks, aims);
+    states(Trip::Distribute, side, counting_up(1000), marks, aims);
 }
 
 // The states of concentrate, and of distribute back to the same cells.
@@ -119,7 +119,7 @@ fn frame(side: usize, kind: usize)
 {
     let marks = marks_of(kind);
     let aims = rank_run(side, 64, marks);
-    states(Trip::Concentrate, side, counted(1000), marks, aims);
+    states(Trip::Concentrate, side, counting_up(1000), marks, aims);
     states_back(side, gather(side, marks));
 }
 

@@ -2,8 +2,8 @@
 use crate::calls::Operation;
 use crate::calls::group_run;
 use crate::calls::words_run;
-use crate::frames::cells;
-use crate::frames::counted;
+use crate::frames::counting_up;
+use crate::frames::lane_cells;
 use shiftlists::Axis;
 use shiftlists::Edge;
 ghost use Prim.Native.Nat.{_≤_};
@@ -14,7 +14,7 @@ pub(crate) fn starred() {
     wrapping[1] = 2;
     words_run(Operation::PrefixSum, 2, 16, 9, wrapping);
     words_run(Operation::DataSum, 2, 16, 9, wrapping);
-    let indexes = counted(0);
+    let indexes = counting_up(0);
     words_run(
         Operation::Shift(Axis::MeshRow, Edge::ZeroFill, 1),
         2,
@@ -32,26 +32,26 @@ pub(crate) fn starred() {
 }
 
 // Words that count up from 1.
-fn run(operation: Operation, side: usize, lane: usize, log: usize) {
-    words_run(operation, side, lane, log, counted(1));
+fn run_counting_up(operation: Operation, side: usize, lane: usize, log: usize) {
+    words_run(operation, side, lane, log, counting_up(1));
 }
 
 // From the ends of the board and of its first group, from a cell between, and from past the end.
 fn broadcasts(side: usize, groups: usize)
     requires { ⌜ 1 ≤ groups ⌝ }
 {
-    let n = cells(side);
-    run(Operation::Broadcast(0), side, n, 64);
-    run(Operation::Broadcast(groups - 1), side, n, 64);
-    run(Operation::Broadcast(n * 11 / 17), side, n, 64);
-    run(Operation::Broadcast(n - 1), side, n, 64);
-    run(Operation::Broadcast(n), side, n, 64);
+    let n = lane_cells(side);
+    run_counting_up(Operation::Broadcast(0), side, n, 64);
+    run_counting_up(Operation::Broadcast(groups - 1), side, n, 64);
+    run_counting_up(Operation::Broadcast(n * 11 / 17), side, n, 64);
+    run_counting_up(Operation::Broadcast(n - 1), side, n, 64);
+    run_counting_up(Operation::Broadcast(n), side, n, 64);
 }
 
 // The words come near 2^32, and so their sums pass it.
 fn sums(side: usize) {
-    let n = cells(side);
-    let words = counted(4294967290);
+    let n = lane_cells(side);
+    let words = counting_up(4294967290);
     words_run(Operation::DataSum, side, n, 64, words);
     words_run(Operation::PrefixSum, side, n, 64, words);
 }
@@ -62,11 +62,11 @@ const DISTANCES: [i32; 17] = [-8, -7, -6, -5, -4, -3, -2, -1, 0, 1, 2, 3, 4, 5, 
 fn shifts_by(side: usize, axis: Axis, edge: Edge)
     requires { ⌜ side ≤ 8 ⌝ }
 {
-    let n = cells(side);
+    let n = lane_cells(side);
     let last = 8 + side;
     let mut i: usize = 8 - side;
     while i <= last {
-        run(Operation::Shift(axis, edge, DISTANCES[i]), side, n, 10);
+        run_counting_up(Operation::Shift(axis, edge, DISTANCES[i]), side, n, 10);
         i += 1;
     }
 }
@@ -79,14 +79,14 @@ fn shifts_along(side: usize, axis: Axis)
 }
 
 fn stretch(side: usize, group: usize, lane: usize) {
-    group_run(side, group, lane, counted(1));
+    group_run(side, group, lane, counting_up(1));
 }
 
 // The first group, the last, one past it and one far past it.
 fn stretches(side: usize, groups: usize)
     requires { ⌜ 1 ≤ groups ⌝ }
 {
-    let n = cells(side);
+    let n = lane_cells(side);
     stretch(side, 0, n);
     stretch(side, groups - 1, n);
     stretch(side, groups, n);
@@ -120,25 +120,25 @@ pub(crate) fn at_every_side() {
 fn lengths(operation: Operation, moves: usize)
     requires { ⌜ (1 ≤ moves) × (moves ≤ 9) ⌝ }
 {
-    run(operation, 2, 15, moves);
-    run(operation, 2, 17, 0);
-    run(operation, 2, 16, 0);
-    run(operation, 2, 16, moves - 1);
-    run(operation, 2, 16, moves);
-    run(operation, 2, 16, moves + 1);
+    run_counting_up(operation, 2, 15, moves);
+    run_counting_up(operation, 2, 17, 0);
+    run_counting_up(operation, 2, 16, 0);
+    run_counting_up(operation, 2, 16, moves - 1);
+    run_counting_up(operation, 2, 16, moves);
+    run_counting_up(operation, 2, 16, moves + 1);
 }
 
 // Arguments far past the last, whose list counts as empty, so that no log is too short for it.
 fn far_arguments() {
-    run(Operation::Broadcast(18446744073709551615), 2, 16, 0);
-    run(Operation::Broadcast(16), 2, 15, 0);
-    run(
+    run_counting_up(Operation::Broadcast(18446744073709551615), 2, 16, 0);
+    run_counting_up(Operation::Broadcast(16), 2, 15, 0);
+    run_counting_up(
         Operation::Shift(Axis::MeshRow, Edge::ZeroFill, 2147483647),
         2,
         16,
         0,
     );
-    run(
+    run_counting_up(
         Operation::Shift(Axis::GroupRow, Edge::Circular, -2147483648),
         2,
         16,
@@ -148,10 +148,10 @@ fn far_arguments() {
 
 // The lanes of side 8, told another side.
 fn refused_side(side: usize) {
-    run(Operation::Broadcast(0), side, 4096, 64);
-    run(Operation::DataSum, side, 4096, 64);
-    run(Operation::PrefixSum, side, 4096, 64);
-    run(
+    run_counting_up(Operation::Broadcast(0), side, 4096, 64);
+    run_counting_up(Operation::DataSum, side, 4096, 64);
+    run_counting_up(Operation::PrefixSum, side, 4096, 64);
+    run_counting_up(
         Operation::Shift(Axis::MeshRow, Edge::ZeroFill, 0),
         side,
         4096,
@@ -160,7 +160,7 @@ fn refused_side(side: usize) {
     stretch(side, 0, 4096);
 }
 
-pub(crate) fn refused() {
+pub(crate) fn refused_words() {
     lengths(Operation::Broadcast(15), 5);
     lengths(Operation::DataSum, 9);
     lengths(Operation::PrefixSum, 9);

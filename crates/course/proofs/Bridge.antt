@@ -25,16 +25,16 @@ use Rattle.course.proofs.Lines.{spot, onLine, atCell, own-spot, spot<, 
 abbrev pub headed : ℕ → Bool → ℕ → ℕ
 headed s low aim = cond low (aim % groups s) (aim / groups s % groups s)
 
--- how far off its place a record waits, where so many moves of the run are left
+-- how far off its place a record waits, where so many moves of the run remain
 abbrev pub waitFor : Trip → ℕ → ℕ
-waitFor trip left = cond (isLate trip) (left - 1) 0
+waitFor trip remaining = cond (isLate trip) (remaining - 1) 0
 
 -- of a place what tells how far along a way it is
-abbrev along : ℕ → Way → ℕ → ℕ
-along s Right p = column s p
-along s Left p = column s p
-along s Up p = row s p
-along s Down p = row s p
+abbrev farAlong : ℕ → Way → ℕ → ℕ
+farAlong s Right p = column s p
+farAlong s Left p = column s p
+farAlong s Up p = row s p
+farAlong s Down p = row s p
 
 module _ (s : ℕ) (some : 0 < s) where
   in-column : (i : ℕ) → column s (i % groups s) ≡ digitOf s 1 i
@@ -43,13 +43,13 @@ module _ (s : ℕ) (some : 0 < s) where
   in-row : (i : ℕ) → row s (i % groups s) ≡ digitOf s s i
   in-row i = rw (mod-mul i some some) (digits-div (i / s % s) (mod-lt i some))
 
-  place-digit : (w : Way) (i : ℕ) → along s w (i % groups s) ≡ digitOf s (strideOf s w) i
+  place-digit : (w : Way) (i : ℕ) → farAlong s w (i % groups s) ≡ digitOf s (strideOf s w) i
   place-digit Right i = in-column i
   place-digit Left i = in-column i
   place-digit Up i = in-row i
   place-digit Down i = in-row i
 
-  head-digit : (w : Way) (low : Bool) (aim : ℕ) → along s w (headed s low aim) ≡ digitOf s (cond low (strideOf s w) (strideOf s w * groups s)) aim
+  head-digit : (w : Way) (low : Bool) (aim : ℕ) → farAlong s w (headed s low aim) ≡ digitOf s (cond low (strideOf s w) (strideOf s w * groups s)) aim
   head-digit w true aim = place-digit w aim
   head-digit w false aim =
       place-digit w (aim / groups s)

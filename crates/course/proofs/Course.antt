@@ -66,7 +66,7 @@ content-swapped {s} some (suc b) R pos h j l = rw (turn, content-swapped some b 
 -- the cell of a record of that aim after a move of a list
 abbrev pub wentTo : Trip → ℕ → Turn → Move → ℕ → ℕ → ℕ
 wentTo trip s x Swap aim i = partner s i
-wentTo trip s x (Electronic w) aim i = going s w (waitFor trip (x .left)) (headed s (lowAfter trip (x .swaps)) aim) i
+wentTo trip s x (Electronic w) aim i = going s w (waitFor trip (x .remaining)) (headed s (lowAfter trip (x .swaps)) aim) i
 
 -- a move of a list takes the records from pos to post
 pub record Step (trip : Trip) (s : ℕ) (x : Turn) (b : ℕ) (R : ℕ → Rec) (pos post : ℕ → ℕ) : Type 0 where
@@ -153,7 +153,7 @@ module _ {trip : Trip} {s b : ℕ} {R : ℕ → Rec} (some : 0 < s) where
         (turn-here r rs swaps k (omega (arith, min-le-left (r .times) n)))
         (c .step k (omega (arith, m≤)) .next q v)
 
-    -- where moves are left the run is made
+    -- where moves remain the run is made
     over : {k : ℕ} → k < n - m → m ≡ r .times
     over {k} u = ⊎-elim (λ l. min-eq-left (omega arith)) (λ l. absurd (omega (arith, min-eq-right {n = n} {m = r .times} l))) (apart (r .times) n)
 

@@ -11,13 +11,13 @@ use Rattle.slots.specs.declared.Rec.{Rec}
 use Rattle.slots.specs.declared.Cell.{Cell}
 use Rattle.slots.specs.Cells.{nothing, empty, alone, joined}
 
-abbrev pair : Rec → Rec → Cell
-pair x y = record { front = x; spare = y }
+abbrev cellWith : Rec → Rec → Cell
+cellWith x y = record { front = x; spare = y }
 
 pub data Holds (R : ℕ → Rec) (P : ℕ → Type 0) (c : Cell) : Type 0 where
   hold0 : c ≡ empty → ((k : ℕ) → P k → ⊥) → Holds R P c
-  hold1 : (i : ℕ) → c ≡ pair (R i) nothing → P i → ((k : ℕ) → P k → k ≡ i) → Holds R P c
-  hold2 : (i j : ℕ) → c ≡ pair (R i) (R j) → i < j → P i → P j → ((k : ℕ) → P k → (k ≡ i) ⊎ (k ≡ j)) → Holds R P c
+  hold1 : (i : ℕ) → c ≡ cellWith (R i) nothing → P i → ((k : ℕ) → P k → k ≡ i) → Holds R P c
+  hold2 : (i j : ℕ) → c ≡ cellWith (R i) (R j) → i < j → P i → P j → ((k : ℕ) → P k → (k ≡ i) ⊎ (k ≡ j)) → Holds R P c
 
 -- the same records under another name
 pub same-holds : {R : ℕ → Rec} {P Q : ℕ → Type 0} {c : Cell} → ((k : ℕ) → P k → Q k) → ((k : ℕ) → Q k → P k) → Holds R P c → Holds R Q c
@@ -31,11 +31,11 @@ holds-one (hold0 e n) (hold0 e′ n′) = e ∙ sym e′
 holds-one (hold0 e n) (hold1 i e′ p n′) = absurd (n i p)
 holds-one (hold0 e n) (hold2 i j e′ l p q n′) = absurd (n i p)
 holds-one (hold1 i e p n) (hold0 e′ n′) = absurd (n′ i p)
-holds-one {R} (hold1 i e p n) (hold1 i′ e′ p′ n′) = e ∙ ap (λ (k : ℕ). pair (R k) nothing) (n′ i p) ∙ sym e′
+holds-one {R} (hold1 i e p n) (hold1 i′ e′ p′ n′) = e ∙ ap (λ (k : ℕ). cellWith (R k) nothing) (n′ i p) ∙ sym e′
 holds-one (hold1 i e p n) (hold2 i′ j′ e′ l p′ q′ n′) = absurd (omega (arith, n i′ p′, n j′ q′))
 holds-one (hold2 i j e l p q n) (hold0 e′ n′) = absurd (n′ i p)
 holds-one (hold2 i j e l p q n) (hold1 i′ e′ p′ n′) = absurd (omega (arith, n′ i p, n′ j q))
-holds-one {R} (hold2 i j e l p q n) (hold2 i′ j′ e′ l′ p′ q′ n′) = e ∙ ap₂ (λ (a b : ℕ). pair (R a) (R b)) ii jj ∙ sym e′
+holds-one {R} (hold2 i j e l p q n) (hold2 i′ j′ e′ l′ p′ q′ n′) = e ∙ ap₂ (λ (a b : ℕ). cellWith (R a) (R b)) ii jj ∙ sym e′
   where
     ii : i ≡ i′
     ii = ⊎-elim (λ a. a) (λ a. ⊎-elim (λ b. omega arith) (λ b. omega arith) (n′ j q)) (n′ i p)
@@ -58,7 +58,7 @@ only-none false true = refl
 only-none false false = refl
 
 module _ (g : Rec → Bool) where
-  passing : {c : Cell} {x y : Rec} {a b : Bool} → c ≡ pair x y → g x ≡ a → g y ≡ b → only (g (c .front)) (g (c .spare)) c ≡ only a b (pair x y)
+  passing : {c : Cell} {x y : Rec} {a b : Bool} → c ≡ cellWith x y → g x ≡ a → g y ≡ b → only (g (c .front)) (g (c .spare)) c ≡ only a b (cellWith x y)
   passing e u v = rw (e, u, v)
 
   pub passes : {R : ℕ → Rec} {P : ℕ → Type 0} {c : Cell} → Holds R P c → Holds R (λ k. P k × (g (R k) ≡ true)) (only (g (c .front)) (g (c .spare)) c)
@@ -85,15 +85,15 @@ join-none c = refl
 -- records put into a cell, where at most two have room: those with S k
 module _ (R : ℕ → Rec) (b : ℕ) (marked : (k : ℕ) → k < b → R k .mark ≡ 1) (rising : (i j : ℕ) → i < j → j < b → R i .aim < R j .aim)
     (S : ℕ → Type 0) (below : (k : ℕ) → S k → k < b) (few : (i j k : ℕ) → i < j → j < k → S i → S j → S k → ⊥) where
-  join-empty : {c : Cell} (k : ℕ) → S k → c ≡ empty → joined c (R k) ≡ pair (R k) nothing
+  join-empty : {c : Cell} (k : ℕ) → S k → c ≡ empty → joined c (R k) ≡ cellWith (R k) nothing
   unfolding joined
   join-empty k s e = rw e (rw (marked k (below k s)))
 
-  join-after : {c : Cell} (i k : ℕ) → i < k → S i → S k → c ≡ pair (R i) nothing → joined c (R k) ≡ pair (R i) (R k)
+  join-after : {c : Cell} (i k : ℕ) → i < k → S i → S k → c ≡ cellWith (R i) nothing → joined c (R k) ≡ cellWith (R i) (R k)
   unfolding joined
   join-after i k l r s e = rw e (rw (marked k (below k s), marked i (below i r), le-ltb (R k .aim) (R i .aim) (omega (arith, rising i k l (below k s)))))
 
-  join-before : {c : Cell} (i k : ℕ) → k < i → S i → S k → c ≡ pair (R i) nothing → joined c (R k) ≡ pair (R k) (R i)
+  join-before : {c : Cell} (i k : ℕ) → k < i → S i → S k → c ≡ cellWith (R i) nothing → joined c (R k) ≡ cellWith (R k) (R i)
   unfolding joined
   join-before i k l r s e = rw e (rw (marked k (below k s), marked i (below i r), lt-ltb (R k .aim) (R i .aim) (rising k i l (below i r))))
 

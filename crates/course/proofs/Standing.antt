@@ -21,7 +21,7 @@ use Rattle.mover.specs.Runs.{lowAfter}
 use Rattle.course.proofs.Bridge.{headed}
 use Rattle.course.proofs.Content.{Rising, Fits}
 use Rattle.course.proofs.Course.{wentTo, Step, Course}
-use Rattle.travel.proofs.Turning.{Stage, leg, light, stage}
+use Rattle.travel.proofs.Turning.{StageBack, leg, light, stage-back}
 
 -- a record of the board heads by the rule for the place that it heads for
 first-two : (s aim : ℕ) → 1 ≤ s → aim < cells s → aim / groups s % groups s ≡ aim / groups s
@@ -67,18 +67,18 @@ module _ (s b : ℕ) (pos : 1 ≤ s) (start : ℕ → ℕ) (rising : (r : ℕ) �
     -- concentrate: each record is aimed at its rank
     pub concentrate-step : (k : ℕ) → k < 7 * (s - 1) + 2 → ((r : ℕ) → r < b → R r .aim ≡ r)
         → Step Concentrate s (turnAt (concentrateRuns s) k) b R (λ r. stands s k r (start r)) (λ r. stands s (suc k) r (start r))
-    concentrate-step k h aims = go (stage s pos k (7 * (s - 1) + 1 - k) (omega arith))
+    concentrate-step k h aims = go (stage-back s pos k (7 * (s - 1) + 1 - k) (omega arith))
       where
-        go : {k' : ℕ} → Stage s k k' → Step Concentrate s (turnAt (concentrateRuns s) k) b R (at k) (at (suc k))
+        go : {k' : ℕ} → StageBack s k k' → Step Concentrate s (turnAt (concentrateRuns s) k) b R (at k) (at (suc k))
         go (light f g over) = step-by f (λ r u. over r (start r))
         go (leg w swaps l) = step-by (l .step) (λ r u. l .goes-on r (start r) ∙ sym (rw (l .turn, aims r u, heads-for s r swaps pos (rank< r u))))
 
     -- distribute: each record is aimed at the cell that it started in
     pub distribute-step : (k k' : ℕ) → k + k' ≡ 7 * (s - 1) + 1 → ((r : ℕ) → r < b → R r .aim ≡ start r)
         → Step Distribute s (turnAt (distributeRuns s) k') b R (λ r. stands s (suc k) r (start r)) (λ r. stands s k r (start r))
-    distribute-step k k' e aims = go (stage s pos k k' e)
+    distribute-step k k' e aims = go (stage-back s pos k k' e)
       where
-        go : Stage s k k' → Step Distribute s (turnAt (distributeRuns s) k') b R (at (suc k)) (at k)
+        go : StageBack s k k' → Step Distribute s (turnAt (distributeRuns s) k') b R (at (suc k)) (at k)
         go (light f g over) = step-by g (λ r u. sym (ap (partner s) (over r (start r)) ∙ partner-twice pos (at k r) (below k r u)))
         go (leg w swaps l) =
             step-by (l .back-step) (λ r u. l .goes-back r (start r) (starts r u) ∙ sym (rw (l .back-turn, aims r u, back-heads-for s (start r) swaps pos (inside r u) (l .few))))

@@ -18,16 +18,16 @@ use Rattle.records.specs.Records.{markedCell, countIn, movedCounts}
 use Rattle.records.proofs.Marked.{cell-of}
 use Rattle.jobtext.specs.declared.Job.{Job}
 use Rattle.jobtext.specs.declared.Job.the-variants.{Ready, Refused}
-use Rattle.jobtext.specs.Verdicts.{Marked, Verdict, accepted, refused, verdict}
+use Rattle.jobtext.specs.Verdicts.{CellWord, TextVerdict, isJob, noJob, textVerdict}
 use Rattle.jobtext.specs.Lanes.{laneOf, jobOf, JobRead}
 use mir.Syntax.{w64}
 use mir.Val.{Fits}
 use Rattle.jobtext.proofs.Cells.{square-fits, cells-fit}
 use Rattle.jobtext.proofs.Accepted.{Rising, Known, known, few as few-cells}
 use Rattle.jobs.specs.Outputs.{homeOf, wordsIn, jobCounts, outputOf}
-use Rattle.jobs.specs.Filled.{Filled, printedOf, refusalOf}
+use Rattle.jobs.specs.Filled.{OutFilled, printedOf, refusalOf}
 use Rattle.jobs.specs.Inside.{Settled, JobLanes, lanesText}
-use Rattle.jobs.proofs.Ranks.{laneIn, laid-long, home-in, ranked, all-marked, home-value, home-marked, marks-small}
+use Rattle.jobs.proofs.Ranks.{laneIn, with-cells-long, home-in, ranked, all-marked, home-value, home-marked, marks-small}
 use Rattle.jobs.proofs.Solved.{changing, counts-same}
 
 -- the answer of settled lanes is that of the lanes
@@ -42,7 +42,7 @@ lanes-text {s} {k} {w} {m} {w′} b l z =
     )
 
 pub solve-filled : {s k : ℕ} {w m w′ codes′ moved′ : List ℕ} → JobLanes s k w m → length w′ ≡ length w → Settled s w m w′ codes′ moved′ → {a : List ℕ} {r : ℕ} {b : List ℕ}
-    → Filled a (printedOf s k codes′ moved′ w′) r b → Filled a (lanesText s k w m) r b
+    → OutFilled a (printedOf s k codes′ moved′ w′) r b → OutFilled a (lanesText s k w m) r b
 solve-filled l e z f = rw (lanes-text l e z) at f
 
 -- a board's lane fits 4,096 cells
@@ -50,11 +50,11 @@ pub lane-room : (s : ℕ) {n : ℕ} → isSide s ≡ true → n ≡ cells s → 
 lane-room s h e = omega (arith, side-known s h .cells-few)
 
 -- a job's lanes
-module _ (s : ℕ) (es : List Marked) (side : isSide s ≡ true) (d : Rising 0 (cells s) es) where
+module _ (s : ℕ) (es : List CellWord) (side : isSide s ≡ true) (d : Rising 0 (cells s) es) where
   few : cells s ≤ 4096
   few = side-known s side .cells-few
 
-  abbrev part : (Marked → ℕ) → List ℕ
+  abbrev part : (CellWord → ℕ) → List ℕ
   part value = take (cells s) (laneIn value es)
 
   abbrev words : List ℕ
@@ -63,13 +63,13 @@ module _ (s : ℕ) (es : List Marked) (side : isSide s ≡ true) (d : Rising 0 (
   abbrev marks : List ℕ
   marks = part (λ e. 1)
 
-  lane-long : (value : Marked → ℕ) → length (laneIn value es) ≡ 4096
-  lane-long value = laid-long value es (replicate 4096 0) ∙ length-replicate {A = ℕ} 4096 0
+  lane-long : (value : CellWord → ℕ) → length (laneIn value es) ≡ 4096
+  lane-long value = with-cells-long value es (replicate 4096 0) ∙ length-replicate {A = ℕ} 4096 0
 
-  part-long : (value : Marked → ℕ) → length (part value) ≡ cells s
+  part-long : (value : CellWord → ℕ) → length (part value) ≡ cells s
   part-long value = length-take-le (cells s) (laneIn value es) (omega (arith, few, lane-long value))
 
-  part-at : (value : Marked → ℕ) (k : ℕ) → k < cells s → getD (part value) k 0 ≡ getD (laneIn value es) k 0
+  part-at : (value : CellWord → ℕ) (k : ℕ) → k < cells s → getD (part value) k 0 ≡ getD (laneIn value es) k 0
   part-at value k h = getD-take (cells s) (laneIn value es) k 0 h
 
   rank-same : (i : ℕ) → i ≤ cells s → rankIn marks i ≡ rankIn (laneIn (λ e. 1) es) i
@@ -109,48 +109,48 @@ module _ (s : ℕ) (es : List Marked) (side : isSide s ≡ true) (d : Rising 0 (
       (entries-all (λ r. getD words (markedCell marks (cells s) r) 0) (length es) 0 (wordsIn es) (length-map es (λ e. e .word))
       (λ r h. sym (ap (λ (i : ℕ). getD words i 0) (homes r h) ∙ part-at (λ e. e .word) (homeOf es r) (home-in (cells s) es 0 r h d .1) ∙ home-value es (cells s) few d (λ e. e .word) r h)))
 
-  job-text : lanesText s (length es) words marks ≡ outputOf (accepted s es)
+  job-text : lanesText s (length es) words marks ≡ outputOf (isJob s es)
   unfolding lanesText outputOf
   job-text = rw (moved-same, words-same)
 
 -- what `run` needs of a job that was read
 module _ {w₀ w m₀ m : List ℕ} {job : Job} where
-  lanes-of : (v : Verdict) → Known v → JobRead v w₀ w m₀ m job → (s k : ℕ) → job ≡ Ready s k
+  lanes-of : (v : TextVerdict) → Known v → JobRead v w₀ w m₀ m job → (s k : ℕ) → job ≡ Ready s k
       → JobLanes s k (take (cells s) w) (take (cells s) m) × (lanesText s k (take (cells s) w) (take (cells s) m) ≡ outputOf v)
   unfolding jobOf laneOf
-  lanes-of (accepted s′ es) n z s k e =
+  lanes-of (isJob s′ es) n z s k e =
       let p : s′ ≡ s = cc (z .answer, e) in
       let q : length es ≡ k = cc (z .answer, e) in
       rw (← p, ← q, z .words-are, z .marks-are) (job-lanes s′ es (n .0) (n .1), job-text s′ es (n .0) (n .1))
-  lanes-of (refused a b) n z s k e = let x : _≡_ {A = ℕ} 0 1 = cc (z .answer, e) in absurd (omega arith)
+  lanes-of (noJob a b) n z s k e = let x : _≡_ {A = ℕ} 0 1 = cc (z .answer, e) in absurd (omega arith)
 
-  pub ready-lanes : (text : List ℕ) → JobRead (verdict text) w₀ w m₀ m job → (s k : ℕ) → job ≡ Ready s k → JobLanes s k (take (cells s) w) (take (cells s) m)
-  ready-lanes text z s k e = lanes-of (verdict text) (known text) z s k e .0
+  pub ready-lanes : (text : List ℕ) → JobRead (textVerdict text) w₀ w m₀ m job → (s k : ℕ) → job ≡ Ready s k → JobLanes s k (take (cells s) w) (take (cells s) m)
+  ready-lanes text z s k e = lanes-of (textVerdict text) (known text) z s k e .0
 
-  pub ready-side : (text : List ℕ) → JobRead (verdict text) w₀ w m₀ m job → (s k : ℕ) → job ≡ Ready s k → s ≤ 8
+  pub ready-side : (text : List ℕ) → JobRead (textVerdict text) w₀ w m₀ m job → (s k : ℕ) → job ≡ Ready s k → s ≤ 8
   ready-side text z s k e = side-known s (ready-lanes text z s k e .side) .most
 
-  pub ready-square : (text : List ℕ) → JobRead (verdict text) w₀ w m₀ m job → (s k : ℕ) → job ≡ Ready s k → Fits w64 (s * s)
+  pub ready-square : (text : List ℕ) → JobRead (textVerdict text) w₀ w m₀ m job → (s k : ℕ) → job ≡ Ready s k → Fits w64 (s * s)
   ready-square text z s k e = square-fits s (ready-side text z s k e)
 
-  pub ready-cells : (text : List ℕ) → JobRead (verdict text) w₀ w m₀ m job → (s k : ℕ) → job ≡ Ready s k → Fits w64 (s * s * (s * s))
+  pub ready-cells : (text : List ℕ) → JobRead (textVerdict text) w₀ w m₀ m job → (s k : ℕ) → job ≡ Ready s k → Fits w64 (s * s * (s * s))
   ready-cells text z s k e = cells-fit s (ready-side text z s k e)
 
-  pub words-room : (text : List ℕ) → JobRead (verdict text) w₀ w m₀ m job → (s k : ℕ) → job ≡ Ready s k → s * s * (s * s) ≤ length w
+  pub words-room : (text : List ℕ) → JobRead (textVerdict text) w₀ w m₀ m job → (s k : ℕ) → job ≡ Ready s k → s * s * (s * s) ≤ length w
   words-room text z s k e = omega (arith, length-take (cells s) w, ready-lanes text z s k e .words-long)
 
-  pub marks-room : (text : List ℕ) → JobRead (verdict text) w₀ w m₀ m job → (s k : ℕ) → job ≡ Ready s k → s * s * (s * s) ≤ length m
+  pub marks-room : (text : List ℕ) → JobRead (textVerdict text) w₀ w m₀ m job → (s k : ℕ) → job ≡ Ready s k → s * s * (s * s) ≤ length m
   marks-room text z s k e = omega (arith, length-take (cells s) m, ready-lanes text z s k e .marks-long)
 
-  pub ready-filled : (text : List ℕ) → JobRead (verdict text) w₀ w m₀ m job → (s k : ℕ) → job ≡ Ready s k → {a : List ℕ} {r : ℕ} {b : List ℕ}
-      → Filled a (lanesText s k (take (cells s) w) (take (cells s) m)) r b → Filled a (outputOf (verdict text)) r b
-  ready-filled text z s k e f = rw (lanes-of (verdict text) (known text) z s k e .1) at f
+  pub ready-filled : (text : List ℕ) → JobRead (textVerdict text) w₀ w m₀ m job → (s k : ℕ) → job ≡ Ready s k → {a : List ℕ} {r : ℕ} {b : List ℕ}
+      → OutFilled a (lanesText s k (take (cells s) w) (take (cells s) m)) r b → OutFilled a (outputOf (textVerdict text)) r b
+  ready-filled text z s k e f = rw (lanes-of (textVerdict text) (known text) z s k e .1) at f
 
-  refused-of : (v : Verdict) → JobRead v w₀ w m₀ m job → (n p : ℕ) → job ≡ Refused n p → refusalOf job ≡ outputOf v
+  refused-of : (v : TextVerdict) → JobRead v w₀ w m₀ m job → (n p : ℕ) → job ≡ Refused n p → refusalOf job ≡ outputOf v
   unfolding jobOf refusalOf outputOf
-  refused-of (accepted s es) z n p e = let x : _≡_ {A = ℕ} 0 1 = cc (z .answer, e) in absurd (omega arith)
-  refused-of (refused a b) z n p e = rw (z .answer)
+  refused-of (isJob s es) z n p e = let x : _≡_ {A = ℕ} 0 1 = cc (z .answer, e) in absurd (omega arith)
+  refused-of (noJob a b) z n p e = rw (z .answer)
 
-  pub refused-filled : (text : List ℕ) → JobRead (verdict text) w₀ w m₀ m job → (n p : ℕ) → job ≡ Refused n p → {a : List ℕ} {r : ℕ} {b : List ℕ}
-      → Filled a (refusalOf job) r b → Filled a (outputOf (verdict text)) r b
-  refused-filled text z n p e f = rw (refused-of (verdict text) z n p e) at f
+  pub refused-filled : (text : List ℕ) → JobRead (textVerdict text) w₀ w m₀ m job → (n p : ℕ) → job ≡ Refused n p → {a : List ℕ} {r : ℕ} {b : List ℕ}
+      → OutFilled a (refusalOf job) r b → OutFilled a (outputOf (textVerdict text)) r b
+  refused-filled text z n p e f = rw (refused-of (textVerdict text) z n p e) at f

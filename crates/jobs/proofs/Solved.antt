@@ -12,14 +12,14 @@ use Rattle.laws.proofs.Tables.{length-entries, entry-at, entries-all}
 use Rattle.lists.specs.Lists.{totalMoves}
 use Rattle.lists.proofs.Counts.{concentrate-length}
 use Rattle.travel.specs.Travel.{stands}
-use Rattle.jobtext.specs.Verdicts.{Marked}
+use Rattle.jobtext.specs.Verdicts.{CellWord}
 use Rattle.jobs.specs.Outputs.{homeOf, movedIn, jobCounts}
 
 -- how many of b records change cell in move k of concentrate, where record r started in cell home r
 abbrev pub changing : ℕ → ℕ → (ℕ → ℕ) → ℕ → ℕ
 changing s b home k = sum b (λ r. cond (eqb (stands s k r (home r)) (stands s (suc k) r (home r))) 0 1)
 
-pub counts-same : (s : ℕ) (es : List Marked) (home : ℕ → ℕ) → ((r : ℕ) → r < length es → home r ≡ homeOf es r)
+pub counts-same : (s : ℕ) (es : List CellWord) (home : ℕ → ℕ) → ((r : ℕ) → r < length es → home r ≡ homeOf es r)
     → entries (changing s (length es) home) 0 (totalMoves s) ≡ jobCounts s es
 counts-same s es home homes =
     entries-all (movedIn s es) (totalMoves s) 0 (entries (changing s (length es) home) 0 (totalMoves s)) (length-entries _ 0 (totalMoves s)) each

@@ -9,7 +9,7 @@ use Rattle.jobtext.specs.declared.Job.the-variants.{Ready, Refused}
 use Rattle.answertext.specs.Answers.{answerText, refusedText}
 
 -- a whole text of r bytes stands at the start of a buffer, and the rest of the buffer is as it was
-pub record Filled (before text : List ℕ) (r : ℕ) (after : List ℕ) : Type 0 where
+pub record OutFilled (before text : List ℕ) (r : ℕ) (after : List ℕ) : Type 0 where
   pub count : r ≡ length text
   pub is : after ≡ text ++ drop (length text) before
 

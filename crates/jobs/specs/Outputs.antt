@@ -9,25 +9,25 @@ use Rattle.laws.specs.Tables.{entries}
 use Rattle.runs.specs.Runs.{codes}
 use Rattle.lists.specs.Lists.{concentrateRuns}
 use Rattle.travel.specs.Travel.{concentrateMoves, stands}
-use Rattle.jobtext.specs.Verdicts.{Marked, Verdict, accepted, refused}
+use Rattle.jobtext.specs.Verdicts.{CellWord, TextVerdict, isJob, noJob}
 use Rattle.answertext.specs.Answers.{answerText, refusedText}
 
 -- the cell of the record of rank r, and the words in the order of the ranks: the marked cells of a job stand in order
-abbrev pub homeOf : List Marked → ℕ → ℕ
+abbrev pub homeOf : List CellWord → ℕ → ℕ
 homeOf es r = getD (map (λ e. e .index) es) r 0
 
-abbrev pub wordsIn : List Marked → List ℕ
+abbrev pub wordsIn : List CellWord → List ℕ
 wordsIn es = map (λ e. e .word) es
 
 -- how many records change cell in move k of concentrate
-abbrev pub movedIn : ℕ → List Marked → ℕ → ℕ
+abbrev pub movedIn : ℕ → List CellWord → ℕ → ℕ
 movedIn s es k = sum (length es) (λ r. cond (eqb (stands s k r (homeOf es r)) (stands s (suc k) r (homeOf es r))) 0 1)
 
 -- the moved counts of all its moves
-abbrev pub jobCounts : ℕ → List Marked → List ℕ
+abbrev pub jobCounts : ℕ → List CellWord → List ℕ
 jobCounts s es = entries (movedIn s es) 0 (length (concentrateMoves s))
 
 -- the output of a verdict: of a job the moves of concentrate, and its records in their order
-unfoldable pub outputOf : Verdict → List ℕ
-outputOf (accepted s es) = answerText (codes (concentrateRuns s)) (jobCounts s es) (wordsIn es)
-outputOf (refused n p) = refusedText n p
+unfoldable pub outputOf : TextVerdict → List ℕ
+outputOf (isJob s es) = answerText (codes (concentrateRuns s)) (jobCounts s es) (wordsIn es)
+outputOf (noJob n p) = refusedText n p

@@ -12,14 +12,14 @@ ghost use Prim.Native.Nat.{ℕ, _<_, _≤_};
 ghost use lib.ListN.{length, getD};
 ghost use Rattle.laws.specs.Lent.{old, new};
 ghost use Rattle.array.specs.Cells.{isSide, cells};
-ghost use Rattle.jobtext.specs.Verdicts.{verdict};
+ghost use Rattle.jobtext.specs.Verdicts.{textVerdict};
 ghost use Rattle.jobs.specs.Outputs.{outputOf};
-ghost use Rattle.jobs.specs.Filled.{Filled, refusalOf, printedOf};
+ghost use Rattle.jobs.specs.Filled.{OutFilled, refusalOf, printedOf};
 ghost use Rattle.jobs.specs.Inside.{JobBoard, Settled, JobLanes, lanesText};
 
 // The line of a refused job: nothing where the job is one.
 fn refuse(out: &mut [u8; 196608], job: Job) -> usize
-    ensures { λ r. ⌜ Filled (old out) (refusalOf job) r (new out) ⌝ }
+    ensures { λ r. ⌜ OutFilled (old out) (refusalOf job) r (new out) ⌝ }
 {
     match job {
         Job::Refused(number, place) => refusal(out, number, place),
@@ -39,7 +39,7 @@ fn print(
     requires { ⌜ isSide side ≡ true ⌝ }
     requires { ⌜ marked ≤ 4096 ⌝ }
     requires { ⌜ (length (now codes) ≡ 51) × (length (now moved) ≡ 51) × (marked ≤ length (now words)) ⌝ }
-    ensures { λ r. ⌜ Filled (old out) (printedOf side marked (old codes) (old moved) (old words)) r (new out) ⌝ }
+    ensures { λ r. ⌜ OutFilled (old out) (printedOf side marked (old codes) (old moved) (old words)) r (new out) ⌝ }
 {
     let moves = total_moves(side);
     answer(out, &codes[..moves], &moved[..moves], &words[..marked])
@@ -115,7 +115,7 @@ fn solve(
     marks: &mut [u8],
 ) -> usize
     requires { ⌜ JobLanes side marked (now words) (now marks) ⌝ }
-    ensures { λ r. ⌜ Filled (old out) (lanesText side marked (old words) (old marks)) r (new out) ⌝ }
+    ensures { λ r. ⌜ OutFilled (old out) (lanesText side marked (old words) (old marks)) r (new out) ⌝ }
 {
     let mut codes = [0u8; 51];
     let mut moved = [0u16; 51];
@@ -125,7 +125,7 @@ fn solve(
 
 // All that the program does with its input.
 pub fn run(text: &[u8], out: &mut [u8; 196608]) -> usize
-    ensures { λ r. ⌜ Filled (old out) (outputOf (verdict (old text))) r (new out) ⌝ }
+    ensures { λ r. ⌜ OutFilled (old out) (outputOf (textVerdict (old text))) r (new out) ⌝ }
 {
     let mut words = [0u32; 4096];
     let mut marks = [0u8; 4096];

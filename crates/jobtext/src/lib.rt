@@ -7,12 +7,12 @@ use texts::read::same;
 ghost use mathlib.Core.Path.{_≡_};
 ghost use Prim.Native.Nat.{_≤_, _<_};
 ghost use Rattle.texts.specs.Lines.{linesOf};
-ghost use Rattle.jobtext.specs.Verdicts.{sideOf, lineEntry, cellsFrom, verdict};
+ghost use Rattle.jobtext.specs.Verdicts.{sideOf, markLine, cellsFrom, textVerdict};
 ghost use Rattle.jobtext.specs.Lanes.{CellsRead, JobRead};
 
-// What a line is, after the first: a marked cell.
-pub enum Entry {
-    Cell { index: usize, word: u32 },
+// What a line after the first gives: a marked cell.
+pub enum MarkLine {
+    Mark { index: usize, word: u32 },
     Malformed,
 }
 
@@ -38,27 +38,27 @@ fn read_side(line: &[u8]) -> Number
 }
 
 // The index and the word that a later line gives, where the index is at least next and below end.
-fn read_entry(line: &[u8], next: usize, end: usize) -> Entry
-    ensures { λ r. ⌜ r ≡ lineEntry next end (now (line .entry)) ⌝ }
+fn read_mark(line: &[u8], next: usize, end: usize) -> MarkLine
+    ensures { λ r. ⌜ r ≡ markLine next end (now (line .entry)) ⌝ }
 {
     let at = bytes_before(line, 9);
     if at == line.len() {
-        return Entry::Malformed;
+        return MarkLine::Malformed;
     }
     let Number::Of(i) = number_of(&line[..at]) else {
-        return Entry::Malformed;
+        return MarkLine::Malformed;
     };
     let Number::Of(word) = number_of(&line[at + 1..]) else {
-        return Entry::Malformed;
+        return MarkLine::Malformed;
     };
     let index = i as usize;
     if index < next {
-        return Entry::Malformed;
+        return MarkLine::Malformed;
     }
     if end <= index {
-        return Entry::Malformed;
+        return MarkLine::Malformed;
     }
-    Entry::Cell { index, word }
+    MarkLine::Mark { index, word }
 }
 
 // Reads the lines after the first into lanes, from what the lanes hold.
@@ -77,7 +77,7 @@ fn read_cells(text: &[u8], side: usize, words: &mut [u32; 4096], marks: &mut [u8
         if end == rest.len() {
             return Job::Refused(8, line);
         }
-        let Entry::Cell { index, word } = read_entry(&rest[..end], next, cells) else {
+        let MarkLine::Mark { index, word } = read_mark(&rest[..end], next, cells) else {
             return Job::Refused(8, line);
         };
         words[index] = word;
@@ -95,7 +95,7 @@ fn read_cells(text: &[u8], side: usize, words: &mut [u32; 4096], marks: &mut [u8
 
 // Reads a job: into the lanes where it is one, and with the lanes as they were where it is refused.
 pub fn read(text: &[u8], words: &mut [u32; 4096], marks: &mut [u8; 4096]) -> Job
-    ensures { λ r. ⌜ JobRead (verdict (now (text .entry))) (now (words .entry)) (now (words .exit)) (now (marks .entry)) (now (marks .exit)) r ⌝ }
+    ensures { λ r. ⌜ JobRead (textVerdict (now (text .entry))) (now (words .entry)) (now (words .exit)) (now (marks .entry)) (now (marks .exit)) r ⌝ }
 {
     if text.len() > 65536 {
         return Job::Refused(8, 0);

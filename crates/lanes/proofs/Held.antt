@@ -20,7 +20,7 @@ use Rattle.lanes.specs.declared.Joining.{Joining}
 use Rattle.lanes.specs.Machine.{State, all, at, load, unload, valueAt}
 use Rattle.sums.specs.Sums.{cellwise, combineOf, combinedWords}
 use Rattle.lanes.specs.Runs.{running, isRun, ranWords}
-use Rattle.lanes.specs.Inside.{FitsBoard, HoldsWords, Lane, Moved, swapped}
+use Rattle.lanes.specs.Inside.{FitsBoard, HoldsWords, Lane, Moved, swappedState}
 use Rattle.lanes.proofs.Agreeing.{all-same}
 use Rattle.lanes.proofs.Coordinates.{place<, at<, partner-at, holds-load, unloaded}
 
@@ -96,7 +96,7 @@ ran-lane s w j e n {l} {l′} {σ} h h′ q z =
     })
 
 -- a swap
-pub swapped-lane : (s : ℕ) {l l′ : List ℕ} {σ : State ℕ} → l′ ≡ swappedLane s l → Lane s l σ → Lane s l′ (swapped σ)
+pub swapped-lane : (s : ℕ) {l l′ : List ℕ} {σ : State ℕ} → l′ ≡ swappedLane s l → Lane s l σ → Lane s l′ (swappedState σ)
 swapped-lane s {l} {l′} {σ} q z =
     let is : l′ ≡ _ = rw (board-is s (length l) (z .board)) at q in
     rw is (record {

@@ -11,7 +11,7 @@ use Rattle.array.specs.declared.moves.Move.{Move}
 use Rattle.array.specs.declared.moves.Move.the-variants.{Swap, Electronic}
 use Rattle.sums.specs.Sums.{plus, minus}
 use Rattle.lanes.specs.Machine.{State, Stage, fromBefore, receive, ran, all}
-use Rattle.lanes.specs.Stages.{position, stepsOn, front, from, joined, light, word, copy}
+use Rattle.lanes.specs.Stages.{position, stepsOn, front, from, taking, light, word, copy}
 use Rattle.lanes.specs.Registers.{IsWord, afterMoves, handedOn, IfAny, Registers}
 
 -- a stage hands on what is Fit of registers that are Good, and makes Good registers of them
@@ -111,15 +111,15 @@ module _ {R A : Type 0} {Good : R → Type 0} {Fit : A → Type 0} {send : R →
       go true = z .joins o x g h
       go false = g
 
-  joined-good : (o : R) (got : Option A) → Good o → IfAny Fit got → Good (joined op o got)
-  joined-good o none g h = g
-  joined-good o (some x) g h = z .joins o x g h
+  taking-good : (o : R) (got : Option A) → Good o → IfAny Fit got → Good (taking op o got)
+  taking-good o none g h = g
+  taking-good o (some x) g h = z .joins o x g h
 
   pub from-keeping : (w : Way) (e n : ℕ) → Keeps Good Fit (from w send op e n)
   from-keeping w e n = record { sends = z .sends; turns = λ k c d a b. front-good (stepsOn w e (suc k)) (position w a b) }
 
   pub light-keeping : (n : ℕ) → Keeps Good Fit (light n send op)
-  light-keeping n = record { sends = z .sends; turns = λ k c d a b. joined-good }
+  light-keeping n = record { sends = z .sends; turns = λ k c d a b. taking-good }
 
 -- sums and differences are words, and so are words handed on, taken as they come or added
 pub plus-word : (x y : ℕ) → IsWord (plus x y)

@@ -13,21 +13,21 @@ use Rattle.array.specs.declared.moves.Way.{Way}
 use Rattle.array.specs.declared.moves.Way.the-variants.{Right, Left, Up, Down}
 use Rattle.array.specs.Cells.{groups, row, column}
 use Rattle.array.proofs.Board.{place-is, row-in, column-in}
-use Rattle.lanes.specs.declared.steps.Line.{Line}
+use Rattle.lanes.specs.declared.steps.LinePlaces.{LinePlaces}
 use Rattle.lanes.specs.declared.steps.Source.{Source}
 use Rattle.lanes.specs.declared.steps.Source.the-variants.{At, Nothing}
 use Rattle.lanes.specs.Stages.{position}
-use Rattle.lanes.specs.Inside.{Group, sourceOf, behindOf, alongOf, acrossOf, orderOf, Places, Apart, noLine, lineFrom, lineAt, LineIn}
+use Rattle.lanes.specs.Inside.{Group, sourceOf, behindOf, placeGap, lineGap, orderOf, Places, Apart, noLine, lineFrom, lineAt, LineIn}
 
 -- the place at position p of line k, and the line of a place
 abbrev pub spot : ℕ → Way → ℕ → ℕ → ℕ
-spot s w k p = p * alongOf s w + k * acrossOf s w
+spot s w k p = p * placeGap s w + k * lineGap s w
 
-abbrev pub lineOf : Way → ℕ → ℕ → ℕ
-lineOf Right a b = a
-lineOf Left a b = a
-lineOf Up a b = b
-lineOf Down a b = b
+abbrev pub lineNumber : Way → ℕ → ℕ → ℕ
+lineNumber Right a b = a
+lineNumber Left a b = a
+lineNumber Up a b = b
+lineNumber Down a b = b
 
 -- by row and column
 abbrev rowOf : Way → ℕ → ℕ → ℕ
@@ -76,24 +76,24 @@ module _ {s k p : ℕ} (hk : k < s) (hp : p < s) where
   spot-position Up = row-is Up
   spot-position Down = row-is Down
 
-  pub spot-line : (w : Way) → lineOf w (row s (spot s w k p)) (column s (spot s w k p)) ≡ k
+  pub spot-line : (w : Way) → lineNumber w (row s (spot s w k p)) (column s (spot s w k p)) ≡ k
   spot-line Right = row-is Right
   spot-line Left = row-is Left
   spot-line Up = column-is Up
   spot-line Down = column-is Down
 
 -- a place is on its line at its position
-pub spot-is : (s i : ℕ) (w : Way) → spot s w (lineOf w (row s i) (column s i)) (position w (row s i) (column s i)) ≡ i
+pub spot-is : (s i : ℕ) (w : Way) → spot s w (lineNumber w (row s i) (column s i)) (position w (row s i) (column s i)) ≡ i
 spot-is s i w = spot-at s w _ _ ∙ back w ∙ place-is s i
   where
-    back : (w : Way) → rowOf w (lineOf w (row s i) (column s i)) (position w (row s i) (column s i)) * s
-        + columnOf w (lineOf w (row s i) (column s i)) (position w (row s i) (column s i)) ≡ row s i * s + column s i
+    back : (w : Way) → rowOf w (lineNumber w (row s i) (column s i)) (position w (row s i) (column s i)) * s
+        + columnOf w (lineNumber w (row s i) (column s i)) (position w (row s i) (column s i)) ≡ row s i * s + column s i
     back Right = refl
     back Left = refl
     back Up = refl
     back Down = refl
 
-pub line-in : {s : ℕ} (i : ℕ) (w : Way) → 1 ≤ s → i < groups s → lineOf w (row s i) (column s i) < s
+pub line-in : {s : ℕ} (i : ℕ) (w : Way) → 1 ≤ s → i < groups s → lineNumber w (row s i) (column s i) < s
 line-in i Right h l = row-in h i l
 line-in i Left h l = row-in h i l
 line-in i Up h l = column-in h i
@@ -129,7 +129,7 @@ abbrev pub placed : (ℕ → ℕ) → Source → Source
 placed f (At q) = At (f q)
 placed f Nothing = Nothing
 
-pub source-is : (s i : ℕ) (w : Way) → sourceOf s w i ≡ placed (spot s w (lineOf w (row s i) (column s i))) (behindOf s w (position w (row s i) (column s i)))
+pub source-is : (s i : ℕ) (w : Way) → sourceOf s w i ≡ placed (spot s w (lineNumber w (row s i) (column s i))) (behindOf s w (position w (row s i) (column s i)))
 source-is s i Right = go (ltb 0 (column s i)) refl
   where
     go : (t : Bool) → ltb 0 (column s i) ≡ t → cond t (At (i - 1)) Nothing ≡ placed (spot s Right (row s i)) (cond t (At (column s i - 1)) Nothing)
@@ -171,26 +171,26 @@ a-group h h′ = record { least = h; most = h′; whole = refl }
 
 -- the places at a position, and those behind them
 module _ {s n : ℕ} (g : Group s n) where
-  across-pos : (w : Way) → 0 < acrossOf s w
-  across-pos Right = g .least
-  across-pos Left = g .least
-  across-pos Up = omega arith
-  across-pos Down = omega arith
+  line-gap-pos : (w : Way) → 0 < lineGap s w
+  line-gap-pos Right = g .least
+  line-gap-pos Left = g .least
+  line-gap-pos Up = omega arith
+  line-gap-pos Down = omega arith
 
-  pub places : (w : Way) (p : ℕ) → p < s → Places (p * alongOf s w) (acrossOf s w) s n
+  pub places : (w : Way) (p : ℕ) → p < s → Places (p * placeGap s w) (lineGap s w) s n
   places w p h = record {
     few = rw (g .whole) (square-grows (g .most));
-    on = across-pos w;
+    on = line-gap-pos w;
     inside = λ k u. rw (g .whole) (spot-in u h w);
   }
 
-  pub places-apart : (w : Way) (p q : ℕ) → p < s → q < s → (q ≡ p → ⊥) → Apart (p * alongOf s w) (q * alongOf s w) (acrossOf s w) s
+  pub places-apart : (w : Way) (p q : ℕ) → p < s → q < s → (q ≡ p → ⊥) → Apart (p * placeGap s w) (q * placeGap s w) (lineGap s w) s
   places-apart w p q h h′ e = record {
     are = λ j k u u′ x. e (sym (spot-position u h′ w) ∙ ap (λ i. position w (row s i) (column s i)) x ∙ spot-position u′ h w);
   }
 
   -- as the code works them out
-  pub places-ready : (w : Way) (p q next apart : ℕ) → p < s → behindOf s w p ≡ At q → next ≡ alongOf s w → apart ≡ acrossOf s w
+  pub places-ready : (w : Way) (p q next apart : ℕ) → p < s → behindOf s w p ≡ At q → next ≡ placeGap s w → apart ≡ lineGap s w
       → Places (p * next) apart s n × (Places (q * next) apart s n × Apart (p * next) (q * next) apart s)
   places-ready w p q next apart h e x y =
       let b = behind-is s w p q h e in
@@ -213,13 +213,13 @@ module _ {s n : ℕ} (g : Group s n) where
       go false e = nowhere
 
   -- a product that fits
-  pub along-few : (w : Way) (p next : ℕ) → p < s → next ≡ alongOf s w → p * next < 64
-  along-few w p next h e = rw e (omega (arith, spot-in {k = 0} (g .least) h w, square-grows (g .most)))
+  pub place-gap-few : (w : Way) (p next : ℕ) → p < s → next ≡ placeGap s w → p * next < 64
+  place-gap-few w p next h e = rw e (omega (arith, spot-in {k = 0} (g .least) h w, square-grows (g .most)))
 
 -- the line of a position, as the code works it out
 module _ (s : ℕ) (w : Way) (p : ℕ) where
-  pub line-found : (q next apart : ℕ) (from : Source) → p < s → from ≡ behindOf s w p → from ≡ At q → next ≡ alongOf s w → apart ≡ acrossOf s w
-      → _≡_ {A = Line} (record { to = p * next; from = q * next; apart = apart; count = s }) (lineAt s w p)
+  pub line-found : (q next apart : ℕ) (from : Source) → p < s → from ≡ behindOf s w p → from ≡ At q → next ≡ placeGap s w → apart ≡ lineGap s w
+      → _≡_ {A = LinePlaces} (record { to = p * next; from = q * next; apart = apart; count = s }) (lineAt s w p)
   line-found q next apart from h b e x y = rw (lt-ltb p s h, ← b, e, x, y)
 
   pub line-missed : (from : Source) → p < s → from ≡ behindOf s w p → from ≡ Nothing → noLine ≡ lineAt s w p

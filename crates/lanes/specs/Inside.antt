@@ -14,7 +14,7 @@ use Rattle.array.specs.declared.moves.Move.the-variants.{Electronic}
 use Rattle.array.specs.Cells.{groups, cells, row, column}
 use Rattle.lanes.specs.declared.Joining.{Joining}
 use Rattle.lanes.specs.declared.Joining.the-variants.{Add, Copy, Fill}
-use Rattle.lanes.specs.declared.steps.Line.{Line}
+use Rattle.lanes.specs.declared.steps.LinePlaces.{LinePlaces}
 use Rattle.lanes.specs.declared.steps.JoinRule.{JoinRule}
 use Rattle.lanes.specs.declared.steps.Source.{Source}
 use Rattle.lanes.specs.declared.steps.Source.the-variants.{At, Nothing}
@@ -49,8 +49,8 @@ pub record Moves (s : ℕ) (f : State ℕ → State ℕ) (l l′ : List ℕ) : T
   pub so : (σ : State ℕ) → Lane s l σ → Lane s l′ (f σ)
 
 -- a state after a swap
-abbrev pub swapped : State ℕ → State ℕ
-swapped σ c d a b = σ a b c d
+abbrev pub swappedState : State ℕ → State ℕ
+swappedState σ c d a b = σ a b c d
 
 -- inside this crate the board is known
 pub record Moved (s : ℕ) (f : State ℕ → State ℕ) (l l′ : List ℕ) : Type 0 where
@@ -80,8 +80,8 @@ abbrev pub filling : JoinRule
 filling = record { joining = Fill; front = 0 }
 
 -- a group after the turn of the places at position p
-abbrev pub turned : ℕ → Way → Joining → ℕ → List ℕ → List ℕ
-turned s w j p l =
+abbrev pub afterTurn : ℕ → Way → Joining → ℕ → List ℕ → List ℕ
+afterTurn s w j p l =
     entries (λ i. cond (eqb (position w (row s i) (column s i)) p) (nextOf s w (record { joining = j; front = p }) l i) (getD l i 0)) 0 (groups s)
 
 -- the position whose word comes to position p of a line
@@ -92,17 +92,17 @@ behindOf s Up p = cond (ltb (p + 1) s) (At (p + 1)) Nothing
 behindOf s Down p = cond (ltb 0 p) (At (p - 1)) Nothing
 
 -- how far apart the places of a line are, and the lines
-abbrev pub alongOf : ℕ → Way → ℕ
-alongOf s Right = 1
-alongOf s Left = 1
-alongOf s Up = s
-alongOf s Down = s
+abbrev pub placeGap : ℕ → Way → ℕ
+placeGap s Right = 1
+placeGap s Left = 1
+placeGap s Up = s
+placeGap s Down = s
 
-abbrev pub acrossOf : ℕ → Way → ℕ
-acrossOf s Right = s
-acrossOf s Left = s
-acrossOf s Up = 1
-acrossOf s Down = 1
+abbrev pub lineGap : ℕ → Way → ℕ
+lineGap s Right = s
+lineGap s Left = s
+lineGap s Up = 1
+lineGap s Down = 1
 
 -- the order in which the positions take their turn where all of them do: from the far end back
 abbrev pub orderOf : Way → ℕ → ℕ → ℕ
@@ -122,23 +122,23 @@ pub record Apart (to from apart count : ℕ) : Type 0 where
   pub are : (j k : ℕ) → j < count → k < count → from + j * apart ≡ to + k * apart → ⊥
 
 -- the places at position p and those behind them; none where no word comes
-abbrev pub noLine : Line
+abbrev pub noLine : LinePlaces
 noLine = record { to = 0; from = 0; apart = 1; count = 0 }
 
-abbrev pub lineFrom : ℕ → Way → ℕ → Source → Line
-lineFrom s w p (At q) = record { to = p * alongOf s w; from = q * alongOf s w; apart = acrossOf s w; count = s }
+abbrev pub lineFrom : ℕ → Way → ℕ → Source → LinePlaces
+lineFrom s w p (At q) = record { to = p * placeGap s w; from = q * placeGap s w; apart = lineGap s w; count = s }
 lineFrom s w p Nothing = noLine
 
-abbrev pub lineAt : ℕ → Way → ℕ → Line
+abbrev pub lineAt : ℕ → Way → ℕ → LinePlaces
 lineAt s w p = cond (ltb p s) (lineFrom s w p (behindOf s w p)) noLine
 
-pub record LineIn (x : Line) (n : ℕ) : Type 0 where
+pub record LineIn (x : LinePlaces) (n : ℕ) : Type 0 where
   pub written : Places (x .to) (x .apart) (x .count) n
   pub heard : Places (x .from) (x .apart) (x .count) n
   pub apart : Apart (x .to) (x .from) (x .apart) (x .count)
 
 -- count places hold f 0, f 1, .. and the others what they held
-pub record Laid (first apart count : ℕ) (f : ℕ → ℕ) (l l′ : List ℕ) : Type 0 where
+pub record PlacesLaid (first apart count : ℕ) (f : ℕ → ℕ) (l l′ : List ℕ) : Type 0 where
   pub size : length l′ ≡ length l
   pub done : (k : ℕ) → k < count → getD l′ (first + k * apart) 0 ≡ f k
   pub kept : (i : ℕ) → ((k : ℕ) → k < count → i ≡ first + k * apart → ⊥) → getD l′ i 0 ≡ getD l i 0

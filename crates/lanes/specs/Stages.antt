@@ -32,12 +32,12 @@ abbrev pub from : {R A : Type 0} → Way → (R → A) → (R → A → R) → �
 from w send op e n = record { run = along w n; send = send; rule = λ k c d a b. front op (stepsOn w e (suc k)) (position w a b) }
 
 -- n swaps, in which every cell joins what it receives
-abbrev pub joined : {R A : Type 0} → (R → A → R) → R → Option A → R
-joined op own none = own
-joined op own (some x) = op own x
+abbrev pub taking : {R A : Type 0} → (R → A → R) → R → Option A → R
+taking op own none = own
+taking op own (some x) = op own x
 
 abbrev pub light : {R A : Type 0} → ℕ → (R → A) → (R → A → R) → Stage R A
-light n send op = record { run = swapping n; send = send; rule = λ k c d a b. joined op }
+light n send op = record { run = swapping n; send = send; rule = λ k c d a b. taking op }
 
 -- words that are handed on as they are, and taken as they come
 abbrev pub word : ℕ → ℕ

@@ -10,7 +10,7 @@ ghost use lib.ListN.{length};
 ghost use lib.Dec.{ltb};
 ghost use Rattle.lanes.specs.Machine.{all};
 ghost use Rattle.lanes.specs.Stages.{stepsOn};
-ghost use Rattle.lanes.specs.Inside.{FitsBoard, Group, Moved, Places, Apart, Laid, joinFrom, joinOf, behindOf, alongOf, acrossOf, lineAt, LineIn, orderOf, turned, filling, stepped, steppedAll};
+ghost use Rattle.lanes.specs.Inside.{FitsBoard, Group, Moved, Places, Apart, PlacesLaid, joinFrom, joinOf, behindOf, placeGap, lineGap, lineAt, LineIn, orderOf, afterTurn, filling, stepped, steppedAll};
 ghost use Rattle.lanes.specs.Runs.{running};
 
 // What the cells do in one move; the front is the position whose turn it is.
@@ -26,14 +26,14 @@ pub enum Source {
 }
 
 // The places that take a word in a move, and those from which it comes: the first of each, how far apart they are, and how many.
-pub struct Line {
+pub struct LinePlaces {
     pub to: usize,
     pub from: usize,
     pub apart: usize,
     pub count: usize,
 }
 
-const NO_LINE: Line = Line {
+const NO_LINE: LinePlaces = LinePlaces {
     to: 0,
     from: 0,
     apart: 1,
@@ -75,8 +75,8 @@ fn behind(side: usize, way: Way, p: usize) -> Source
 }
 
 // How far apart the places of a line are in a stretch.
-fn along(side: usize, way: Way) -> usize
-    ensures { λ r. ⌜ r ≡ alongOf side way ⌝ }
+fn place_gap(side: usize, way: Way) -> usize
+    ensures { λ r. ⌜ r ≡ placeGap side way ⌝ }
 {
     match way {
         Way::Right => 1,
@@ -87,8 +87,8 @@ fn along(side: usize, way: Way) -> usize
 }
 
 // How far apart the lines are.
-fn across(side: usize, way: Way) -> usize
-    ensures { λ r. ⌜ r ≡ acrossOf side way ⌝ }
+fn line_gap(side: usize, way: Way) -> usize
+    ensures { λ r. ⌜ r ≡ lineGap side way ⌝ }
 {
     match way {
         Way::Right => side,
@@ -99,7 +99,7 @@ fn across(side: usize, way: Way) -> usize
 }
 
 // The word of a cell whose turn it is and that received x.
-fn joined(joining: Joining, own: u32, x: u32) -> u32
+fn join(joining: Joining, own: u32, x: u32) -> u32
     ensures { λ r. ⌜ r ≡ joinOf joining own x ⌝ }
 {
     match joining {
@@ -121,21 +121,21 @@ fn join_places(
     requires { ⌜ Places to apart count (length (now part)) ⌝ }
     requires { ⌜ Places from apart count (length (now part)) ⌝ }
     requires { ⌜ Apart to from apart count ⌝ }
-    ensures { λ _. ⌜ Laid to apart count (joinFrom joining to from apart (now (part .entry))) (now (part .entry)) (now (part .exit)) ⌝ }
+    ensures { λ _. ⌜ PlacesLaid to apart count (joinFrom joining to from apart (now (part .entry))) (now (part .entry)) (now (part .exit)) ⌝ }
 {
     let mut k = 0;
     while k < count {
         let i = to + k * apart;
         let j = from + k * apart;
-        let v = joined(joining, part[i], part[j]);
+        let v = join(joining, part[i], part[j]);
         part[i] = v;
         k += 1;
     }
 }
 
-fn join_line(part: &mut [u32], joining: Joining, line: Line)
+fn join_line(part: &mut [u32], joining: Joining, line: LinePlaces)
     requires { ⌜ LineIn line (length (now part)) ⌝ }
-    ensures { λ _. ⌜ Laid (line .to) (line .apart) (line .count) (joinFrom joining (line .to) (line .from) (line .apart) (now (part .entry))) (now (part .entry)) (now (part .exit)) ⌝ }
+    ensures { λ _. ⌜ PlacesLaid (line .to) (line .apart) (line .count) (joinFrom joining (line .to) (line .from) (line .apart) (now (part .entry))) (now (part .entry)) (now (part .exit)) ⌝ }
 {
     join_places(part, joining, line.to, line.from, line.apart, line.count);
 }
@@ -143,7 +143,7 @@ fn join_line(part: &mut [u32], joining: Joining, line: Line)
 // So many places hold 0.
 fn clear_places(part: &mut [u32], to: usize, apart: usize, count: usize)
     requires { ⌜ Places to apart count (length (now part)) ⌝ }
-    ensures { λ _. ⌜ Laid to apart count (λ k. 0) (now (part .entry)) (now (part .exit)) ⌝ }
+    ensures { λ _. ⌜ PlacesLaid to apart count (λ k. 0) (now (part .entry)) (now (part .exit)) ⌝ }
 {
     let mut k = 0;
     while k < count {
@@ -154,18 +154,18 @@ fn clear_places(part: &mut [u32], to: usize, apart: usize, count: usize)
 }
 
 // The places at position p and those behind them; none where no word comes.
-fn line_at(side: usize, way: Way, p: usize) -> Line
+fn line_at(side: usize, way: Way, p: usize) -> LinePlaces
     requires { ⌜ (1 ≤ side) × (side ≤ 8) ⌝ }
     ensures { λ r. ⌜ r ≡ lineAt side way p ⌝ }
 {
     if side <= p {
         return NO_LINE;
     }
-    let next = along(side, way);
-    let apart = across(side, way);
+    let next = place_gap(side, way);
+    let apart = line_gap(side, way);
     let from = behind(side, way, p);
     match from {
-        Source::At(q) => Line {
+        Source::At(q) => LinePlaces {
             to: p * next,
             from: q * next,
             apart: apart,
@@ -179,10 +179,10 @@ fn line_at(side: usize, way: Way, p: usize) -> Line
 fn fill_line(part: &mut [u32], side: usize, way: Way, p: usize)
     requires { ⌜ Group side (length (now part)) ⌝ }
     requires { ⌜ p < side ⌝ }
-    ensures { λ _. ⌜ now (part .exit) ≡ turned side way Joining.Fill p (now (part .entry)) ⌝ }
+    ensures { λ _. ⌜ now (part .exit) ≡ afterTurn side way Joining.Fill p (now (part .entry)) ⌝ }
 {
-    let next = along(side, way);
-    let apart = across(side, way);
+    let next = place_gap(side, way);
+    let apart = line_gap(side, way);
     let from = behind(side, way, p);
     match from {
         Source::At(q) => join_places(part, Joining::Fill, p * next, q * next, apart, side),
@@ -216,7 +216,7 @@ fn fill(part: &mut [u32], side: usize, way: Way)
 }
 
 // One move inside a group, in its own stretch: with a front that position alone has its turn.
-fn step(part: &mut [u32], side: usize, way: Way, rule: JoinRule, line: Line)
+fn step(part: &mut [u32], side: usize, way: Way, rule: JoinRule, line: LinePlaces)
     requires { ⌜ Group side (length (now part)) ⌝ }
     requires { ⌜ line ≡ lineAt side way (rule .front) ⌝ }
     ensures { λ _. ⌜ now (part .exit) ≡ stepped side way rule (now (part .entry)) ⌝ }

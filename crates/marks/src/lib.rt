@@ -14,7 +14,7 @@ fn greater(a: u8, b: u8) -> u8
 }
 
 // No mark is above it.
-fn greatest(marks: &[u8]) -> u8
+fn greatest_mark(marks: &[u8]) -> u8
     ensures { λ r. ⌜ AtMost r (old marks) ⌝ }
 {
     let mut most: u8 = 0;
@@ -44,7 +44,7 @@ fn search(marks: &[u8]) -> Case
 pub fn marks_case(marks: &[u8]) -> Case
     ensures { λ r. ⌜ r ≡ marksCase (old marks) ⌝ }
 {
-    if greatest(marks) < 2 {
+    if greatest_mark(marks) < 2 {
         return case_of(false, 5, marks.len());
     }
     search(marks)

@@ -14,7 +14,7 @@ use Rattle.sums.specs.Sums.{plus, minus}
 use Rattle.lanes.specs.Stages.{from, light, copy}
 use Rattle.prefix.specs.Programs.{Sums, loadSums, addRow, addColumn, takeGroup, addGroups, addGroupRows, rowsAbove, takeAbove, groupsBefore, takeBefore, rowBefore, takeRow, prefixSum, prefixed}
 use Rattle.prefix.specs.Results.{prefixSumWords}
-use Rattle.lanes.specs.Inside.{swapped}
+use Rattle.lanes.specs.Inside.{swappedState}
 use Rattle.prefix.specs.Inside.{summed, copied, modified, finished}
 use Rattle.lanes.proofs.Coordinates.{unload-by, sum-to}
 use Rattle.lanes.proofs.Lines.{right-all, down-all, left-all, up-all, acc-copy, acc-plus}
@@ -30,7 +30,7 @@ module _ (s : ℕ) where
   C₂ w = summed s Down (R₁ w)
 
   unfoldable pub A₃ : State ℕ → State ℕ
-  A₃ w = swapped (C₂ w)
+  A₃ w = swappedState (C₂ w)
 
   unfoldable pub Y₄ : State ℕ → State ℕ
   Y₄ w = summed s Right (A₃ w)
@@ -55,8 +55,8 @@ module _ (s : ℕ) where
 
 -- the last lane from those that the code's parts leave
 pub parts-are : (s : ℕ) (w : State ℕ)
-    → finished s (summed s Right w) (summed s Down (summed s Right w)) (modified s (swapped (summed s Down (summed s Right w)))
-    (summed s Right (swapped (summed s Down (summed s Right w)))) (summed s Down (summed s Right (swapped (summed s Down (summed s Right w))))))
+    → finished s (summed s Right w) (summed s Down (summed s Right w)) (modified s (swappedState (summed s Down (summed s Right w)))
+    (summed s Right (swappedState (summed s Down (summed s Right w)))) (summed s Down (summed s Right (swappedState (summed s Down (summed s Right w))))))
     ≡ P₉ s w
 unfolding R₁ C₂ A₃ Y₄ Z₅ U₆ M₇ M₈ V₉ P₉
 parts-are s w = refl
@@ -244,8 +244,8 @@ module _ (s : ℕ) {σ w : State ℕ} (h : Reduced s σ w) where
 abbrev came : State ℕ → State ℕ
 came w c d a b = sum (suc c) (λ i. sum (suc d) (w a b i))
 
-abbrev before : ℕ → State ℕ → State ℕ
-before s w c d a b = sum d (came w a b c) + sum c (λ i. sum (suc (s - 1)) (came w a b i))
+abbrev sumBefore : ℕ → State ℕ → State ℕ
+sumBefore s w c d a b = sum d (came w a b c) + sum c (λ i. sum (suc (s - 1)) (came w a b i))
 
 module _ (s : ℕ) {σ w : State ℕ} (h : Reduced s σ w) where
   R₁-is : Reduced s (R₁ s σ) (λ c d a b. sum (suc b) (w c d a))
@@ -275,30 +275,30 @@ module _ (s : ℕ) {σ w : State ℕ} (h : Reduced s σ w) where
         ap₂ minus (Z₅-is .is c d a b hc hd ha hb) (Y₄-is .is c d a b hc hd ha hb) ∙ minus-mod (sum a (λ i. sum (suc b) (came w c d i))) _;
   })
 
-  M₇-is : Reduced s (M₇ s σ) (before s w)
+  M₇-is : Reduced s (M₇ s σ) (sumBefore s w)
   unfolding M₇
   M₇-is = record {
     is = λ c d a b hc hd ha hb.
         let u = U₆-is .is a b c d ha hb hc hd in
         let y = Y₄-is .is a b c d ha hb hc hd in
         let t = A₃-is .is a b c d ha hb hc hd in
-        ap₂ minus (ap₂ plus u y ∙ plus-mod _ _ ∙ ap (λ n. n % (2 ^ 32)) (omega arith)) t ∙ minus-mod (before s w c d a b) (came w a b c d);
+        ap₂ minus (ap₂ plus u y ∙ plus-mod _ _ ∙ ap (λ n. n % (2 ^ 32)) (omega arith)) t ∙ minus-mod (sumBefore s w c d a b) (came w a b c d);
   }
 
-  M₈-is : Reduced s (M₈ s σ) (λ c d a b. before s w c d (s - 1) b)
+  M₈-is : Reduced s (M₈ s σ) (λ c d a b. sumBefore s w c d (s - 1) b)
   unfolding M₈
   M₈-is = copy-up s M₇-is
 
-  V₉-is : Reduced s (V₉ s σ) (λ c d a b. before s w c d (s - 1) (s - 1) + sum a (λ i. sum (suc (s - 1)) (w c d i)))
+  V₉-is : Reduced s (V₉ s σ) (λ c d a b. sumBefore s w c d (s - 1) (s - 1) + sum a (λ i. sum (suc (s - 1)) (w c d i)))
   unfolding V₉
-  V₉-is = copy-left s {w = λ c d a b. before s w c d (s - 1) b + sum a (λ i. sum (suc b) (w c d i))} (record {
+  V₉-is = copy-left s {w = λ c d a b. sumBefore s w c d (s - 1) b + sum a (λ i. sum (suc b) (w c d i))} (record {
     is = λ c d a b hc hd ha hb.
         ap₂ minus (ap₂ plus (M₈-is .is c d a b hc hd ha hb) (C₂-is .is c d a b hc hd ha hb) ∙ plus-mod _ _ ∙ ap (λ n. n % (2 ^ 32)) (omega arith))
         (R₁-is .is c d a b hc hd ha hb)
-        ∙ minus-mod (before s w c d (s - 1) b + sum a (λ i. sum (suc b) (w c d i))) (sum (suc b) (w c d a));
+        ∙ minus-mod (sumBefore s w c d (s - 1) b + sum a (λ i. sum (suc b) (w c d i))) (sum (suc b) (w c d a));
   })
 
-  P₉-is : Reduced s (P₉ s σ) (λ c d a b. sum (suc b) (w c d a) + (before s w c d (s - 1) (s - 1) + sum a (λ i. sum (suc (s - 1)) (w c d i))))
+  P₉-is : Reduced s (P₉ s σ) (λ c d a b. sum (suc b) (w c d a) + (sumBefore s w c d (s - 1) (s - 1) + sum a (λ i. sum (suc (s - 1)) (w c d i))))
   unfolding P₉
   P₉-is = record { is = λ c d a b hc hd ha hb. ap₂ plus (R₁-is .is c d a b hc hd ha hb) (V₉-is .is c d a b hc hd ha hb) ∙ plus-mod _ _ }
 

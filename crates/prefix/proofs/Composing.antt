@@ -14,7 +14,7 @@ use Rattle.sums.specs.declared.Combining.the-variants.{Take, Plus, Minus}
 use Rattle.lanes.specs.Machine.{State, load}
 use Rattle.sums.specs.Sums.{plus, minus, combinedWords}
 use Rattle.lanes.specs.Runs.{ranWords}
-use Rattle.lanes.specs.Inside.{FitsBoard, Lane, Moves, swapped}
+use Rattle.lanes.specs.Inside.{FitsBoard, Lane, Moves, swappedState}
 use Rattle.lanes.proofs.Held.{board-known, lane-load, lane-words, ran-lane, swapped-lane, combined-lane}
 use Rattle.prefix.specs.Programs.{prefixed}
 use Rattle.prefix.specs.Results.{prefixSumLane}
@@ -36,10 +36,10 @@ pub group-sums : (s : ℕ) {c a a₁ a′ y y₁ y′ z z₁ z′ : List ℕ} �
     → y′ ≡ ranWords s Right Add 0 (s - 1) y₁ → z₁ ≡ combinedWords Take z y′ → z′ ≡ ranWords s Down Add 0 (s - 1) z₁ → GroupSums s c a y z a′ y′ z′
 group-sums s {c} {a} {a₁} {a′} {y} {y₁} {y′} ta sw ty ry tz rz = record { came = ca; rows = cy; columns = λ C A Y Z hc ha hy hz. sums s Down rz (combined-lane s Take tz hz (cy C A Y hc ha hy)) }
   where
-    ca : (C A : State ℕ) → Lane s c C → Lane s a A → Lane s a′ (swapped C)
+    ca : (C A : State ℕ) → Lane s c C → Lane s a A → Lane s a′ (swappedState C)
     ca C A hc ha = swapped-lane s sw (combined-lane s Take ta ha hc)
 
-    cy : (C A Y : State ℕ) → Lane s c C → Lane s a A → Lane s y Y → Lane s y′ (summed s Right (swapped C))
+    cy : (C A Y : State ℕ) → Lane s c C → Lane s a A → Lane s y Y → Lane s y′ (summed s Right (swappedState C))
     cy C A Y hc ha hy = sums s Right ry (combined-lane s Take ty hy (ca C A hc ha))
 
 -- one lane added and another taken off

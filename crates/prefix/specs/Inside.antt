@@ -6,7 +6,7 @@ use Rattle.array.specs.declared.moves.Way.the-variants.{Right, Left, Up, Down}
 use Rattle.lanes.specs.Machine.{State, all}
 use Rattle.sums.specs.Sums.{plus, minus}
 use Rattle.lanes.specs.Stages.{from, word, copy}
-use Rattle.lanes.specs.Inside.{Lane, swapped}
+use Rattle.lanes.specs.Inside.{Lane, swappedState}
 use Rattle.prefix.specs.Programs.{prefixed}
 
 -- runs over whole lines: sums from the first position on, copies from the last one back
@@ -23,13 +23,13 @@ pub record RowsAndColumns (s : ℕ) (r c r′ c′ : List ℕ) : Type 0 where
 
 -- step 3 and the sums of step 4: a is what came by light, y its row sums, z their column sums; what a, y and z held does not matter
 pub record GroupSums (s : ℕ) (c a y z a′ y′ z′ : List ℕ) : Type 0 where
-  pub came : (C A : State ℕ) → Lane s c C → Lane s a A → Lane s a′ (swapped C)
-  pub rows : (C A Y : State ℕ) → Lane s c C → Lane s a A → Lane s y Y → Lane s y′ (summed s Right (swapped C))
-  pub columns : (C A Y Z : State ℕ) → Lane s c C → Lane s a A → Lane s y Y → Lane s z Z → Lane s z′ (summed s Down (summed s Right (swapped C)))
+  pub came : (C A : State ℕ) → Lane s c C → Lane s a A → Lane s a′ (swappedState C)
+  pub rows : (C A Y : State ℕ) → Lane s c C → Lane s a A → Lane s y Y → Lane s y′ (summed s Right (swappedState C))
+  pub columns : (C A Y Z : State ℕ) → Lane s c C → Lane s a A → Lane s y Y → Lane s z Z → Lane s z′ (summed s Down (summed s Right (swappedState C)))
 
 -- the rest of step 4, and step 5: the modified sums, sent back by light
 abbrev pub modified : ℕ → State ℕ → State ℕ → State ℕ → State ℕ
-modified s A Y Z = swapped (λ c d a b. minus (plus (copied s Left (λ c d a b. minus (Z c d a b) (Y c d a b)) c d a b) (Y c d a b)) (A c d a b))
+modified s A Y Z = swappedState (λ c d a b. minus (plus (copied s Left (λ c d a b. minus (Z c d a b) (Y c d a b)) c d a b) (Y c d a b)) (A c d a b))
 
 pub record Modified (s : ℕ) (a y z z′ : List ℕ) : Type 0 where
   pub so : (A Y Z : State ℕ) → Lane s a A → Lane s y Y → Lane s z Z → Lane s z′ (modified s A Y Z)

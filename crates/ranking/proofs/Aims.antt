@@ -21,7 +21,7 @@ use Rattle.lanes.proofs.Held.{unload-holds}
 use Rattle.prefix.specs.Programs.{Sums, loadSums, prefixSum, prefixed}
 use Rattle.prefix.specs.Results.{prefixSumWords, prefixSumLane}
 use Rattle.prefix.proofs.Adding.{prefixSum-all}
-use Rattle.ranking.specs.Inside.{Summed, Marked}
+use Rattle.ranking.specs.Inside.{Summed, GoodMarks}
 use Rattle.ranking.specs.Programs.{Ranking, withMark, rank, unloadAim, rankedMarks}
 use Rattle.ranking.specs.Ranks.{aimIn, aimOf, ranks}
 
@@ -46,7 +46,7 @@ module _ {marks sums : List ℕ} (z : Summed marks sums) (i : ℕ) (h : i < leng
   aim-is = one-off marks i (getD sums i 0) (z .sums-are i h)
 
 -- the prefix sums of good marks
-summed-marks : (s : ℕ) (marks sums : List ℕ) → Marked s marks → sums ≡ cond (isBoard s (length marks)) (prefixSumWords s marks) marks → Summed marks sums
+summed-marks : (s : ℕ) (marks sums : List ℕ) → GoodMarks s marks → sums ≡ cond (isBoard s (length marks)) (prefixSumWords s marks) marks → Summed marks sums
 summed-marks s marks sums z e = record {
   size = rw (sums-are, length-entries (λ i. sumOf (suc i) marks % 2 ^ 32) 0 (cells s)) (sym (z .size));
   few = rw (z .size) (side-known s (z .side) .cells-few);
@@ -66,12 +66,12 @@ summed-marks s marks sums z e = record {
         (entry-at (λ i. sumOf (suc i) marks % 2 ^ 32) (cells s) i 0 (rw (z .size) at h)
         ∙ mod-eq-of-lt (omega (arith, few-marked marks (suc i) (λ k u. z .good k (omega arith)), z .size, side-known s (z .side) .cells-few)))
 
-pub summed : {s : ℕ} {marks loaded sums : List ℕ} → Marked s marks → loaded ≡ marks
+pub summed : {s : ℕ} {marks loaded sums : List ℕ} → GoodMarks s marks → loaded ≡ marks
     → sums ≡ cond (isBoard s (length loaded)) (prefixSumWords s loaded) loaded → Summed marks sums
 summed {s} {marks} {loaded} {sums} z l e = summed-marks s marks sums z (e ∙ ap (λ (w : List ℕ). cond (isBoard s (length w)) (prefixSumWords s w) w) l)
 
 -- the same where the sum is made only of 16 words at most
-pub summed-least : {s : ℕ} {marks loaded sums : List ℕ} → Marked s marks → length marks ≤ 16 → loaded ≡ marks
+pub summed-least : {s : ℕ} {marks loaded sums : List ℕ} → GoodMarks s marks → length marks ≤ 16 → loaded ≡ marks
     → sums ≡ cond (ltb 16 (length loaded)) loaded (prefixSumLane s loaded) → Summed marks sums
 summed-least {s} {marks} {loaded} {sums} z h l e =
     let few : length loaded ≤ 16 = omega (arith, ap length l) in

@@ -9,14 +9,14 @@ use Rattle.lists.specs.Lists.{prefixSumRuns}
 use Rattle.answers.specs.Answers.{verdict, logCase, acceptedBy}
 use Rattle.answers.proofs.Verdicts.{NoneApplies, none-refuses, side-built, lane-whole}
 use Rattle.marks.proofs.Checked.{good-marks}
-use Rattle.ranking.specs.Inside.{Marked}
+use Rattle.ranking.specs.Inside.{GoodMarks}
 use Rattle.ranking.specs.Entries.{rankCases}
 
 module _ (s : ℕ) (marks : List ℕ) (n log : ℕ) {r : Answer} (e : r ≡ verdict (rankCases s marks n log) (acceptedBy (prefixSumRuns s))) (z : r .number ≡ 0) where
   none : NoneApplies (rankCases s marks n log)
   none = none-refuses (rankCases s marks n log) (acceptedBy (prefixSumRuns s)) refl e z
 
-  pub marked : Marked s marks
+  pub marked : GoodMarks s marks
   marked = record { side = side-built s (none .0); size = lane-whole s (length marks) (none .1 .0); good = good-marks marks (none .1 .1 .1 .1 .0) }
 
   pub aims-long : n ≡ length marks

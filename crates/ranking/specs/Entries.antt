@@ -8,7 +8,7 @@ use Rattle.answers.specs.declared.Answer.{Answer}
 use Rattle.answers.specs.declared.Case.{Case}
 use Rattle.lists.specs.Lists.{prefixSumRuns}
 use Rattle.answers.specs.Answers.{sideCase, laneCase, logCase}
-use Rattle.answers.specs.Entry.{Entry, Logged}
+use Rattle.answers.specs.Entry.{Entry, CodesLogged}
 use Rattle.marks.specs.Marks.{marksCase}
 use Rattle.ranking.specs.Ranks.{ranks}
 
@@ -21,4 +21,4 @@ rankCases s marks aims log =
 abbrev pub Ranked : ℕ → Lent → Lent → Lent → Answer → Type 0
 Ranked s marks aims codes =
     Entry (rankCases s (old marks) (length (old aims)) (length (old codes))) (prefixSumRuns s)
-    (new aims ≡ ranks s (old marks)) (Logged (prefixSumRuns s) codes) (Kept aims × Kept codes)
+    (new aims ≡ ranks s (old marks)) (CodesLogged (prefixSumRuns s) codes) (Kept aims × Kept codes)

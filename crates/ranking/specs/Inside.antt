@@ -15,7 +15,7 @@ pub record Summed (marks sums : List ℕ) : Type 0 where
   pub sums-are : (i : ℕ) → i < length marks → getD sums i 0 ≡ sumOf (suc i) marks
 
 -- good marks of a board
-pub record Marked (s : ℕ) (marks : List ℕ) : Type 0 where
+pub record GoodMarks (s : ℕ) (marks : List ℕ) : Type 0 where
   pub side : isSide s ≡ true
   pub size : length marks ≡ cells s
   pub good : (i : ℕ) → i < length marks → getD marks i 0 < 2

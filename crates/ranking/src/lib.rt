@@ -18,7 +18,7 @@ ghost use Rattle.laws.specs.Tables.{entries};
 ghost use Rattle.lists.specs.Lists.{prefixSumRuns};
 ghost use Rattle.answers.specs.Answers.{verdict, acceptedBy};
 ghost use Rattle.ranking.specs.Ranks.{aimIn, aimOf, ranks};
-ghost use Rattle.ranking.specs.Inside.{Summed, Marked};
+ghost use Rattle.ranking.specs.Inside.{Summed, GoodMarks};
 ghost use Rattle.ranking.specs.Entries.{rankCases, Ranked};
 
 fn wide(mark: u8) -> u32
@@ -28,7 +28,7 @@ fn wide(mark: u8) -> u32
 }
 
 // The marks as words.
-fn load(marks: &[u8], sums: &mut [u32])
+fn load_marks(marks: &[u8], sums: &mut [u32])
     requires { ⌜ length (now marks) ≡ length (now sums) ⌝ }
     ensures { λ _. ⌜ new sums ≡ old marks ⌝ }
 {
@@ -53,7 +53,7 @@ fn aim(mark: u8, sum: u32) -> u16
 }
 
 // The aims, of the marks and their prefix sums.
-fn unload(marks: &[u8], sums: &[u32], aims: &mut [u16])
+fn set_aims(marks: &[u8], sums: &[u32], aims: &mut [u16])
     requires { ⌜ Summed (now marks) (now sums) ⌝ }
     requires { ⌜ length (now aims) ≡ length (now marks) ⌝ }
     ensures { λ _. ⌜ new aims ≡ entries (aimIn (old marks)) 0 (length (old marks)) ⌝ }
@@ -69,32 +69,32 @@ fn unload(marks: &[u8], sums: &[u32], aims: &mut [u16])
 
 // The ranks, by way of the prefix sums of the marks, in a lane of words that is lent for them.
 fn rank_lanes(side: usize, marks: &[u8], sums: &mut [u32], aims: &mut [u16])
-    requires { ⌜ Marked side (now marks) ⌝ }
+    requires { ⌜ GoodMarks side (now marks) ⌝ }
     requires { ⌜ length (now marks) ≡ length (now sums) ⌝ }
     requires { ⌜ length (now aims) ≡ length (now marks) ⌝ }
     ensures { λ _. ⌜ new aims ≡ ranks side (old marks) ⌝ }
 {
-    load(marks, sums);
+    load_marks(marks, sums);
     prefix_words(side, sums);
-    unload(marks, &sums[..], aims);
+    set_aims(marks, &sums[..], aims);
 }
 
 // The same on a board of side 2 at most, without the room that the prefix sum has for larger ones.
 fn rank_least(side: usize, marks: &[u8], sums: &mut [u32], aims: &mut [u16])
-    requires { ⌜ Marked side (now marks) ⌝ }
+    requires { ⌜ GoodMarks side (now marks) ⌝ }
     requires { ⌜ length (now marks) ≡ length (now sums) ⌝ }
     requires { ⌜ length (now aims) ≡ length (now marks) ⌝ }
     requires { ⌜ length (now marks) ≤ 16 ⌝ }
     ensures { λ _. ⌜ new aims ≡ ranks side (old marks) ⌝ }
 {
-    load(marks, sums);
+    load_marks(marks, sums);
     prefix_least(side, sums);
-    unload(marks, &sums[..], aims);
+    set_aims(marks, &sums[..], aims);
 }
 
 // On a board of side 2 at most, of side 4 at most, and of any: the lane of sums is cleared, so it is not to be much too long.
 fn write_least(side: usize, marks: &[u8], aims: &mut [u16])
-    requires { ⌜ Marked side (now marks) ⌝ }
+    requires { ⌜ GoodMarks side (now marks) ⌝ }
     requires { ⌜ length (now aims) ≡ length (now marks) ⌝ }
     requires { ⌜ length (now marks) ≤ 16 ⌝ }
     ensures { λ _. ⌜ new aims ≡ ranks side (old marks) ⌝ }
@@ -105,7 +105,7 @@ fn write_least(side: usize, marks: &[u8], aims: &mut [u16])
 }
 
 fn write_few(side: usize, marks: &[u8], aims: &mut [u16])
-    requires { ⌜ Marked side (now marks) ⌝ }
+    requires { ⌜ GoodMarks side (now marks) ⌝ }
     requires { ⌜ length (now aims) ≡ length (now marks) ⌝ }
     requires { ⌜ length (now marks) ≤ 256 ⌝ }
     ensures { λ _. ⌜ new aims ≡ ranks side (old marks) ⌝ }
@@ -116,7 +116,7 @@ fn write_few(side: usize, marks: &[u8], aims: &mut [u16])
 }
 
 fn write_many(side: usize, marks: &[u8], aims: &mut [u16])
-    requires { ⌜ Marked side (now marks) ⌝ }
+    requires { ⌜ GoodMarks side (now marks) ⌝ }
     requires { ⌜ length (now aims) ≡ length (now marks) ⌝ }
     requires { ⌜ length (now marks) ≤ 4096 ⌝ }
     ensures { λ _. ⌜ new aims ≡ ranks side (old marks) ⌝ }
@@ -127,7 +127,7 @@ fn write_many(side: usize, marks: &[u8], aims: &mut [u16])
 }
 
 fn write_ranks(side: usize, marks: &[u8], aims: &mut [u16])
-    requires { ⌜ Marked side (now marks) ⌝ }
+    requires { ⌜ GoodMarks side (now marks) ⌝ }
     requires { ⌜ length (now aims) ≡ length (now marks) ⌝ }
     ensures { λ _. ⌜ new aims ≡ ranks side (old marks) ⌝ }
 {

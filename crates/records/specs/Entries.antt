@@ -5,7 +5,7 @@ use mathlib.Core.List.{List}
 use lib.ListN.{length}
 use Rattle.laws.specs.Lent.{Lent, old, Kept}
 use Rattle.answers.specs.declared.Answer.{Answer}
-use Rattle.answers.specs.Entry.{Entry, Unlogged, Written, Logged}
+use Rattle.answers.specs.Entry.{Entry, Unlogged, LogWritten, CodesLogged}
 use Rattle.light.specs.Lanes.{tableBefore, tableAfter}
 use Rattle.slots.specs.declared.Cell.{Cell}
 use Rattle.slots.specs.Lanes.{cellsAfter}
@@ -36,7 +36,7 @@ FullRun trip s w m a w₂ m₂ a₂ codes moved =
     (fullCases trip s (sizesOf (old w) (old w₂) (old m₂) (old a₂)) (old m) (old a) (length (old codes)) (length (old moved)))
     (runsOf trip s)
     (Stood trip s (totalMoves s) (old w) (old m) (old a) (cellsAfter w m a w₂ m₂ a₂))
-    (Logged (runsOf trip s) codes × Written (movedCounts trip s (totalMoves s) (old m) (old a)) moved)
+    (CodesLogged (runsOf trip s) codes × LogWritten (movedCounts trip s (totalMoves s) (old m) (old a)) moved)
     (Unchanged w m a w₂ m₂ a₂ × (Kept codes × Kept moved))
 
 -- a run up to a cut, without logs

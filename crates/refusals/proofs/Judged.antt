@@ -67,24 +67,24 @@ module _ {trip : Trip} {s : ℕ} {marks aims : List ℕ} {rank previous i : ℕ}
       let x : firstAim trip s marks aims ≡ length marks = searching-none (badAim trip s marks aims) (length marks) h (z .searching) in
       rw (x, le-ltb (length marks) (length marks) (omega arith))
 
--- the first runs found so far, and those that are left
-pub record Cutting (cut : ℕ) (runs firsts : List Run) (left q : ℕ) : Type 0 where
+-- the first runs found so far, and the moves that remain
+pub record Cutting (cut : ℕ) (runs firsts : List Run) (remaining q : ℕ) : Type 0 where
   pub inside : q ≤ 9
   pub long : length firsts ≡ 9
-  pub so-far : take q firsts ++ firstRuns left (drop q runs) ≡ firstRuns cut runs
+  pub so-far : take q firsts ++ firstRuns remaining (drop q runs) ≡ firstRuns cut runs
 
 pub cutting-start : (cut : ℕ) (runs firsts : List Run) → length firsts ≡ 9 → Cutting cut runs firsts cut 0
 cutting-start cut runs firsts h = record { inside = omega arith; long = h; so-far = refl }
 
-pub cutting-next : {cut : ℕ} {runs firsts : List Run} {left q times : ℕ} (d : Run) → length runs ≡ 9 → q < 9
-    → times ≡ min left (getD runs q d .times) → Cutting cut runs firsts left q
-    → Cutting cut runs (set firsts q (record { step = getD runs q d .step; times = times })) (left - times) (q + 1)
-cutting-next {cut} {runs} {firsts} {left} {q} {times} d n h e z =
+pub cutting-next : {cut : ℕ} {runs firsts : List Run} {remaining q times : ℕ} (d : Run) → length runs ≡ 9 → q < 9
+    → times ≡ min remaining (getD runs q d .times) → Cutting cut runs firsts remaining q
+    → Cutting cut runs (set firsts q (record { step = getD runs q d .step; times = times })) (remaining - times) (q + 1)
+cutting-next {cut} {runs} {firsts} {remaining} {q} {times} d n h e z =
     let v : Run = record { step = getD runs q d .step; times = times } in
-    let l : left - times ≡ left - getD runs q d .times = omega arith in
-    let rest = firstRuns (left - getD runs q d .times) (drop (suc q) runs) in
+    let l : remaining - times ≡ remaining - getD runs q d .times = omega arith in
+    let rest = firstRuns (remaining - getD runs q d .times) (drop (suc q) runs) in
     let run : ℕ → Run = λ t. record { step = getD runs q d .step; times = t } in
-    let next = sym (ap (firstRuns left) (drop-cons runs q d (omega arith))) in
+    let next = sym (ap (firstRuns remaining) (drop-cons runs q d (omega arith))) in
     record {
       inside = omega arith;
       long = length-set firsts q v ∙ z .long;
@@ -92,10 +92,10 @@ cutting-next {cut} {runs} {firsts} {left} {q} {times} d n h e z =
           (append-assoc (take q firsts) (v ∷ []) rest ∙ ap (λ (x : List Run). take q firsts ++ x) (ap (λ (t : ℕ). run t ∷ rest) e ∙ next) ∙ z .so-far);
     }
 
-pub cutting-end : {cut : ℕ} {runs firsts : List Run} {left q : ℕ} → length runs ≡ 9 → 9 ≤ q → Cutting cut runs firsts left q → firsts ≡ firstRuns cut runs
-cutting-end {cut} {runs} {firsts} {left} {q} n h z =
+pub cutting-end : {cut : ℕ} {runs firsts : List Run} {remaining q : ℕ} → length runs ≡ 9 → 9 ≤ q → Cutting cut runs firsts remaining q → firsts ≡ firstRuns cut runs
+cutting-end {cut} {runs} {firsts} {remaining} {q} n h z =
     sym (take-all q firsts (omega (arith, z .long))) ∙ nil (take q firsts)
-    ∙ ap (λ (x : List Run). take q firsts ++ firstRuns left x) (sym (drop-of-length-le runs {i = q} (omega arith))) ∙ z .so-far
+    ∙ ap (λ (x : List Run). take q firsts ++ firstRuns remaining x) (sym (drop-of-length-le runs {i = q} (omega arith))) ∙ z .so-far
   where
     nil : (xs : List Run) → xs ≡ xs ++ []
     nil [] = refl

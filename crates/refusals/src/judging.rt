@@ -174,17 +174,17 @@ pub(crate) fn first_runs(runs: [Run; 9], cut: usize) -> [Run; 9]
     ensures { λ r. ⌜ r ≡ firstRuns cut runs ⌝ }
 {
     let mut firsts = no_runs();
-    let mut left = cut;
+    let mut remaining = cut;
     let mut q: usize = 0;
     while q < 9 {
         let run = runs[q];
         let step = run.step;
-        let times = least(left, run.times);
+        let times = least(remaining, run.times);
         firsts[q] = Run {
             step: step,
             times: times,
         };
-        left -= times;
+        remaining -= times;
         q += 1;
     }
     firsts

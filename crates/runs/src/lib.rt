@@ -31,15 +31,15 @@ pub fn no_runs() -> [Run; 9]
 pub fn step_at(runs: [Run; 9], k: usize) -> Found
     ensures { λ r. ⌜ r ≡ stepIn (moves runs) k ⌝ }
 {
-    let mut left = k;
+    let mut remaining = k;
     let mut q: usize = 0;
     while q < 9 {
         let run = runs[q];
-        if left < run.times {
+        if remaining < run.times {
             let step = run.step;
             return Found::Step(step);
         }
-        left -= run.times;
+        remaining -= run.times;
         q += 1;
     }
     Found::Past

@@ -18,15 +18,15 @@ use Rattle.shiftlists.specs.Shifts.{distanceOf}
 abbrev pub read : ℤ → ℤ
 read k = toZ w32 (ofZ w32 k)
 
-abbrev pub minus : ℤ → ℤ
-minus k = pos 0 -ℤ toZ w64 (ofZ w64 (read k))
+abbrev pub negated : ℤ → ℤ
+negated k = pos 0 -ℤ toZ w64 (ofZ w64 (read k))
 
 module _ (k : ℤ) (f : SFits w32 k) where
   pub wider : SFits w64 (read k)
   wider = rw (toZ-ofZ w32 k f) (record { sfits = omega (arith, f .sfits) })
 
-  minus-is : minus k ≡ pos 0 -ℤ k
-  minus-is = ap (λ (z : ℤ). pos 0 -ℤ toZ w64 (ofZ w64 z)) (toZ-ofZ w32 k f) ∙ ap (λ (z : ℤ). pos 0 -ℤ z) (toZ-ofZ w64 k (record { sfits = omega (arith, f .sfits) }))
+  negated-is : negated k ≡ pos 0 -ℤ k
+  negated-is = ap (λ (z : ℤ). pos 0 -ℤ toZ w64 (ofZ w64 z)) (toZ-ofZ w32 k f) ∙ ap (λ (z : ℤ). pos 0 -ℤ z) (toZ-ofZ w64 k (record { sfits = omega (arith, f .sfits) }))
 
   known : (t : Bool) → ltZ (read k) (pos 0) ≡ t → ltZ k (pos 0) ≡ t
   known t h = rw (toZ-ofZ w32 k f) at h
@@ -42,20 +42,20 @@ from-zero (pos n) f h = (refl, refl, omega (arith, f .sfits))
 from-zero (negsuc n) f h = let z : _≡_ {A = Bool} true false = h in absurd (let y : _≡_ {A = ℕ} 0 1 = cc in omega arith)
 
 module _ (k : ℤ) (f : SFits w32 k) (h : ltZ (read k) (pos 0) ≡ true) where
-  minus-back : minus k ≡ pos (distanceOf k .back)
-  minus-back = minus-is k f ∙ below-zero k f (known k f true h) .0
+  negated-back : negated k ≡ pos (distanceOf k .back)
+  negated-back = negated-is k f ∙ below-zero k f (known k f true h) .0
 
-  pub minus-fits : SFits w64 (minus k)
-  minus-fits = rw minus-back (record { sfits = omega (arith, below-zero k f (known k f true h)) })
+  pub negated-fits : SFits w64 (negated k)
+  negated-fits = rw negated-back (record { sfits = omega (arith, below-zero k f (known k f true h)) })
 
-  minus-read : toZ w64 (ofZ w64 (minus k)) ≡ pos (distanceOf k .back)
-  minus-read = toZ-ofZ w64 (minus k) minus-fits ∙ minus-back
+  negated-read : toZ w64 (ofZ w64 (negated k)) ≡ pos (distanceOf k .back)
+  negated-read = toZ-ofZ w64 (negated k) negated-fits ∙ negated-back
 
-  pub back-casts : T (nonNeg (toZ w64 (ofZ w64 (minus k)))) × Fits w64 (natAbs (toZ w64 (ofZ w64 (minus k))))
-  back-casts = rw minus-read (tt, record { fits = omega (arith, below-zero k f (known k f true h)) })
+  pub back-casts : T (nonNeg (toZ w64 (ofZ w64 (negated k)))) × Fits w64 (natAbs (toZ w64 (ofZ w64 (negated k))))
+  back-casts = rw negated-read (tt, record { fits = omega (arith, below-zero k f (known k f true h)) })
 
-  pub back-is : _≡_ {A = Distance} (record { forth = 0; back = natAbs (toZ w64 (ofZ w64 (minus k))) }) (distanceOf k)
-  back-is = rw minus-read (ap (λ (n : ℕ). record { forth = n; back = distanceOf k .back }) (sym (below-zero k f (known k f true h) .1)))
+  pub back-is : _≡_ {A = Distance} (record { forth = 0; back = natAbs (toZ w64 (ofZ w64 (negated k))) }) (distanceOf k)
+  back-is = rw negated-read (ap (λ (n : ℕ). record { forth = n; back = distanceOf k .back }) (sym (below-zero k f (known k f true h) .1)))
 
 module _ (k : ℤ) (f : SFits w32 k) (h : ltZ (read k) (pos 0) ≡ false) where
   read-forth : read k ≡ pos (distanceOf k .forth)

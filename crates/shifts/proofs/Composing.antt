@@ -27,7 +27,7 @@ use Rattle.lanes.specs.Machine.{State, at, load, unload}
 use Rattle.lanes.specs.Stages.{position}
 use Rattle.sums.specs.Sums.{combinedWords}
 use Rattle.lanes.specs.Runs.{ranWords}
-use Rattle.lanes.specs.Inside.{Lane, Moves, swapped}
+use Rattle.lanes.specs.Inside.{Lane, Moves, swappedState}
 use Rattle.lanes.proofs.Coordinates.{place<}
 use Rattle.lanes.proofs.Held.{board-known, lane-load, lane-words, ran-lane, swapped-lane, cellwise-lane, combined-lane}
 use Rattle.shifts.specs.Results.{shiftLane}
@@ -60,7 +60,7 @@ shift-moves-lane s f e x = record {
 }
 
 pub shift-groups : (s : ℕ) (f : State ℕ → State ℕ) {l l₁ l₂ l₃ : List ℕ} → l₁ ≡ swappedLane s l → Moves s f l₁ l₂ → l₃ ≡ swappedLane s l₂
-    → Moves s (λ σ. swapped (f (swapped σ))) l l₃
+    → Moves s (λ σ. swappedState (f (swappedState σ))) l l₃
 shift-groups s f e x e₃ = record { so = λ σ h. swapped-lane s e₃ (x .so _ (swapped-lane s e h)) }
 
 -- the test of the distance, as the machine reads it

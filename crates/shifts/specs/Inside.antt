@@ -16,7 +16,7 @@ use Rattle.lanes.specs.Machine.{State, all}
 use Rattle.lanes.specs.Stages.{position}
 use Rattle.sums.specs.Sums.{cellwise}
 use Rattle.lanes.specs.Runs.{running}
-use Rattle.lanes.specs.Inside.{Lane, swapped}
+use Rattle.lanes.specs.Inside.{Lane, swappedState}
 use Rattle.shifts.specs.declared.Spot.{Spot}
 use Rattle.shifts.specs.Programs.{takesBack}
 
@@ -36,8 +36,8 @@ meshShift s w edge m n σ c d a b = cond (takes edge m n (position w a b)) (slid
 abbrev pub shiftOn : ℕ → Axis → Edge → ℕ → ℕ → State ℕ → State ℕ
 shiftOn s MeshRow edge m n σ c d a b = meshShift s Right edge m n σ c d a b
 shiftOn s MeshColumn edge m n σ c d a b = meshShift s Down edge m n σ c d a b
-shiftOn s GroupRow edge m n σ c d a b = swapped (meshShift s Right edge m n (swapped σ)) c d a b
-shiftOn s GroupColumn edge m n σ c d a b = swapped (meshShift s Down edge m n (swapped σ)) c d a b
+shiftOn s GroupRow edge m n σ c d a b = swappedState (meshShift s Right edge m n (swappedState σ)) c d a b
+shiftOn s GroupColumn edge m n σ c d a b = swappedState (meshShift s Down edge m n (swappedState σ)) c d a b
 
 -- the spot of the next cell
 abbrev pub nextSpot : ℕ → Spot → Spot

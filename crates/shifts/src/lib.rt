@@ -17,7 +17,7 @@ ghost use mathlib.Core.Bool.{cond};
 ghost use Prim.Native.Nat.{_≤_, _<_};
 ghost use lib.ListN.{length};
 ghost use Rattle.lanes.specs.Stages.{position as positionOf};
-ghost use Rattle.lanes.specs.Inside.{FitsBoard, Moves, swapped};
+ghost use Rattle.lanes.specs.Inside.{FitsBoard, Moves, swappedState};
 ghost use Rattle.shifts.specs.Results.{shiftLane};
 ghost use Rattle.shifts.specs.Inside.{nextSpot, takes as takesOf, chosen, ShiftLanes, meshShift, shiftOn};
 
@@ -136,7 +136,7 @@ fn shift_mesh(words: &mut [u32], side: usize, way: Way, edge: Edge, forth: usize
 fn shift_groups(words: &mut [u32], side: usize, way: Way, edge: Edge, forth: usize, around: usize)
     requires { ⌜ FitsBoard side (length (now words)) ⌝ }
     requires { ⌜ (forth ≤ side) × (around ≤ side) ⌝ }
-    ensures { λ _. ⌜ Moves side (λ σ. swapped (meshShift side way edge forth around (swapped σ))) (now (words .entry)) (now (words .exit)) ⌝ }
+    ensures { λ _. ⌜ Moves side (λ σ. swappedState (meshShift side way edge forth around (swappedState σ))) (now (words .entry)) (now (words .exit)) ⌝ }
 {
     swap_words(side, words);
     shift_mesh(words, side, way, edge, forth, around);

@@ -10,12 +10,12 @@ use Rattle.shiftlists.specs.declared.Edge.{Edge}
 use Rattle.shiftlists.specs.declared.Edge.the-variants.{ZeroFill, Circular}
 
 -- an operation, the side and what it is given; concentrate's aims come from rank
-pub data Case : Type 0 where
-  Concentrate : (side : ℕ) → (words marks : List ℕ) → Case
-  Distribute : (side : ℕ) → (words marks aims : List ℕ) → Case
-  PrefixSum : (side : ℕ) → (words : List ℕ) → Case
-  DataSum : (side : ℕ) → (words : List ℕ) → Case
-  Shift : (side : ℕ) → Axis → Edge → (k : ℤ) → (words : List ℕ) → Case
+pub data StarCase : Type 0 where
+  Concentrate : (side : ℕ) → (words marks : List ℕ) → StarCase
+  Distribute : (side : ℕ) → (words marks aims : List ℕ) → StarCase
+  PrefixSum : (side : ℕ) → (words : List ℕ) → StarCase
+  DataSum : (side : ℕ) → (words : List ℕ) → StarCase
+  Shift : (side : ℕ) → Axis → Edge → (k : ℤ) → (words : List ℕ) → StarCase
 
 -- word 100 + I in cell I, of side 2; unmarked cells hold one as well
 abbrev pub hundreds : List ℕ
@@ -25,7 +25,7 @@ hundreds = entries (λ i. 100 + i) 0 16
 abbrev pub indexes : List ℕ
 indexes = entries (λ i. i) 0 16
 
-abbrev pub cases : List Case
+abbrev pub cases : List StarCase
 cases =
     -- Side 1, one cell marked
     Concentrate 1 (100 ∷ []) (1 ∷ []) ∷

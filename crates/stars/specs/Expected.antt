@@ -6,8 +6,8 @@ use Rattle.answers.specs.Answers.{accepted}
 use Rattle.stars.specs.Rows.{Row, wordsOnly}
 
 -- 0 in every cell of side 2
-abbrev pub none : List ℕ
-none = replicate 16 0
+abbrev pub allZero : List ℕ
+allZero = replicate 16 0
 
 abbrev pub expected : List Row
 expected =
@@ -53,9 +53,9 @@ expected =
             words = 100 ∷ 104 ∷ 105 ∷ 0 ∷ 0 ∷ 0 ∷ 0 ∷ 0 ∷ 0 ∷ 0 ∷ 0 ∷ 0 ∷ 0 ∷ 0 ∷ 0 ∷ 0 ∷ [];
             marks = 1 ∷ 1 ∷ 1 ∷ 0 ∷ 0 ∷ 0 ∷ 0 ∷ 0 ∷ 0 ∷ 0 ∷ 0 ∷ 0 ∷ 0 ∷ 0 ∷ 0 ∷ 0 ∷ [];
             aims = 0 ∷ 1 ∷ 2 ∷ 0 ∷ 0 ∷ 0 ∷ 0 ∷ 0 ∷ 0 ∷ 0 ∷ 0 ∷ 0 ∷ 0 ∷ 0 ∷ 0 ∷ 0 ∷ [];
-            spareWords = none;
-            spareMarks = none;
-            spareAims = none;
+            spareWords = allZero;
+            spareMarks = allZero;
+            spareAims = allZero;
           } ∷
           [];
     } ∷
@@ -69,17 +69,17 @@ expected =
             words = 0 ∷ 70 ∷ 0 ∷ 0 ∷ 0 ∷ 0 ∷ 0 ∷ 71 ∷ 0 ∷ 0 ∷ 0 ∷ 72 ∷ 0 ∷ 0 ∷ 0 ∷ 0 ∷ [];
             marks = 0 ∷ 1 ∷ 0 ∷ 0 ∷ 0 ∷ 0 ∷ 0 ∷ 1 ∷ 0 ∷ 0 ∷ 0 ∷ 1 ∷ 0 ∷ 0 ∷ 0 ∷ 0 ∷ [];
             aims = 0 ∷ 0 ∷ 0 ∷ 0 ∷ 0 ∷ 0 ∷ 0 ∷ 1 ∷ 0 ∷ 0 ∷ 0 ∷ 2 ∷ 0 ∷ 0 ∷ 0 ∷ 0 ∷ [];
-            spareWords = none;
-            spareMarks = none;
-            spareAims = none;
+            spareWords = allZero;
+            spareMarks = allZero;
+            spareAims = allZero;
           } ∷
           record {
             words = 70 ∷ 71 ∷ 72 ∷ 0 ∷ 0 ∷ 0 ∷ 0 ∷ 0 ∷ 0 ∷ 0 ∷ 0 ∷ 0 ∷ 0 ∷ 0 ∷ 0 ∷ 0 ∷ [];
             marks = 1 ∷ 1 ∷ 1 ∷ 0 ∷ 0 ∷ 0 ∷ 0 ∷ 0 ∷ 0 ∷ 0 ∷ 0 ∷ 0 ∷ 0 ∷ 0 ∷ 0 ∷ 0 ∷ [];
             aims = 0 ∷ 1 ∷ 2 ∷ 0 ∷ 0 ∷ 0 ∷ 0 ∷ 0 ∷ 0 ∷ 0 ∷ 0 ∷ 0 ∷ 0 ∷ 0 ∷ 0 ∷ 0 ∷ [];
-            spareWords = none;
-            spareMarks = none;
-            spareAims = none;
+            spareWords = allZero;
+            spareMarks = allZero;
+            spareAims = allZero;
           } ∷
           [];
     } ∷
@@ -93,17 +93,17 @@ expected =
             words = 100 ∷ 0 ∷ 0 ∷ 0 ∷ 101 ∷ 0 ∷ 0 ∷ 0 ∷ 102 ∷ 0 ∷ 0 ∷ 0 ∷ 0 ∷ 0 ∷ 0 ∷ 0 ∷ [];
             marks = 1 ∷ 0 ∷ 0 ∷ 0 ∷ 1 ∷ 0 ∷ 0 ∷ 0 ∷ 1 ∷ 0 ∷ 0 ∷ 0 ∷ 0 ∷ 0 ∷ 0 ∷ 0 ∷ [];
             aims = 1 ∷ 0 ∷ 0 ∷ 0 ∷ 6 ∷ 0 ∷ 0 ∷ 0 ∷ 11 ∷ 0 ∷ 0 ∷ 0 ∷ 0 ∷ 0 ∷ 0 ∷ 0 ∷ [];
-            spareWords = none;
-            spareMarks = none;
-            spareAims = none;
+            spareWords = allZero;
+            spareMarks = allZero;
+            spareAims = allZero;
           } ∷
           record {
             words = 0 ∷ 100 ∷ 0 ∷ 0 ∷ 0 ∷ 0 ∷ 101 ∷ 0 ∷ 0 ∷ 0 ∷ 0 ∷ 102 ∷ 0 ∷ 0 ∷ 0 ∷ 0 ∷ [];
             marks = 0 ∷ 1 ∷ 0 ∷ 0 ∷ 0 ∷ 0 ∷ 1 ∷ 0 ∷ 0 ∷ 0 ∷ 0 ∷ 1 ∷ 0 ∷ 0 ∷ 0 ∷ 0 ∷ [];
             aims = 0 ∷ 1 ∷ 0 ∷ 0 ∷ 0 ∷ 0 ∷ 6 ∷ 0 ∷ 0 ∷ 0 ∷ 0 ∷ 11 ∷ 0 ∷ 0 ∷ 0 ∷ 0 ∷ [];
-            spareWords = none;
-            spareMarks = none;
-            spareAims = none;
+            spareWords = allZero;
+            spareMarks = allZero;
+            spareAims = allZero;
           } ∷
           [];
     } ∷
@@ -117,17 +117,17 @@ expected =
             words = 100 ∷ 101 ∷ 102 ∷ 103 ∷ 104 ∷ 105 ∷ 106 ∷ 107 ∷ 108 ∷ 109 ∷ 110 ∷ 111 ∷ 112 ∷ 113 ∷ 114 ∷ 115 ∷ [];
             marks = 1 ∷ 1 ∷ 1 ∷ 1 ∷ 1 ∷ 1 ∷ 1 ∷ 1 ∷ 1 ∷ 1 ∷ 1 ∷ 1 ∷ 1 ∷ 1 ∷ 1 ∷ 1 ∷ [];
             aims = 0 ∷ 1 ∷ 2 ∷ 3 ∷ 4 ∷ 5 ∷ 6 ∷ 7 ∷ 8 ∷ 9 ∷ 10 ∷ 11 ∷ 12 ∷ 13 ∷ 14 ∷ 15 ∷ [];
-            spareWords = none;
-            spareMarks = none;
-            spareAims = none;
+            spareWords = allZero;
+            spareMarks = allZero;
+            spareAims = allZero;
           } ∷
           record {
             words = 100 ∷ 101 ∷ 102 ∷ 103 ∷ 104 ∷ 105 ∷ 106 ∷ 107 ∷ 108 ∷ 109 ∷ 110 ∷ 111 ∷ 112 ∷ 113 ∷ 114 ∷ 115 ∷ [];
             marks = 1 ∷ 1 ∷ 1 ∷ 1 ∷ 1 ∷ 1 ∷ 1 ∷ 1 ∷ 1 ∷ 1 ∷ 1 ∷ 1 ∷ 1 ∷ 1 ∷ 1 ∷ 1 ∷ [];
             aims = 0 ∷ 1 ∷ 2 ∷ 3 ∷ 4 ∷ 5 ∷ 6 ∷ 7 ∷ 8 ∷ 9 ∷ 10 ∷ 11 ∷ 12 ∷ 13 ∷ 14 ∷ 15 ∷ [];
-            spareWords = none;
-            spareMarks = none;
-            spareAims = none;
+            spareWords = allZero;
+            spareMarks = allZero;
+            spareAims = allZero;
           } ∷
           [];
     } ∷
@@ -138,20 +138,20 @@ expected =
       moved = 0 ∷ 0 ∷ 0 ∷ 0 ∷ 0 ∷ 0 ∷ 0 ∷ 0 ∷ 0 ∷ [];
       states =
           record {
-            words = none;
-            marks = none;
-            aims = none;
-            spareWords = none;
-            spareMarks = none;
-            spareAims = none;
+            words = allZero;
+            marks = allZero;
+            aims = allZero;
+            spareWords = allZero;
+            spareMarks = allZero;
+            spareAims = allZero;
           } ∷
           record {
-            words = none;
-            marks = none;
-            aims = none;
-            spareWords = none;
-            spareMarks = none;
-            spareAims = none;
+            words = allZero;
+            marks = allZero;
+            aims = allZero;
+            spareWords = allZero;
+            spareMarks = allZero;
+            spareAims = allZero;
           } ∷
           [];
     } ∷

@@ -36,7 +36,7 @@ use Rattle.ranking.specs.Ranks.{ranks}
 use Rattle.refusals.specs.declared.Sizes.{Sizes}
 use Rattle.refusals.specs.Cases.{fullCases}
 use Rattle.records.specs.Records.{markedCell, countIn, recordOf, cellOf, movedCounts}
-use Rattle.stars.specs.Cases.{Case, Concentrate, Distribute, PrefixSum, DataSum, Shift}
+use Rattle.stars.specs.Cases.{StarCase, Concentrate, Distribute, PrefixSum, DataSum, Shift}
 
 -- the lanes of a board, cell by cell
 pub record Lanes : Type 0 where
@@ -135,7 +135,7 @@ moving trip s words marks aims = from (cellAt (kept marks words) marks (kept mar
         (λ k. afterRuns trip s (runsOf trip s) 0 k T)
 
 -- by the results that the contracts cite
-abbrev pub resultRow : Case → Row
+abbrev pub resultRow : StarCase → Row
 resultRow (Concentrate s words marks) = standing concentrate s words marks (ranks s marks)
 resultRow (Distribute s words marks aims) = standing distribute s words marks aims
 resultRow (PrefixSum s words) = wordsRow (sumAnswer s (prefixSumRuns s) (length words)) (prefixSumRuns s) (prefixSumWords s words)
@@ -144,7 +144,7 @@ resultRow (Shift s axis edge k words) =
     wordsRow (shiftAnswer s axis edge k (length words)) (shiftRuns s axis edge k) (shiftWords s axis edge k words)
 
 -- by the moves, made one after the other
-unfoldable pub movedRow : Case → Row
+unfoldable pub movedRow : StarCase → Row
 unfolding front
 movedRow (Concentrate s words marks) = moving concentrate s words marks (unload s (rankedMarks s (load s marks)))
 movedRow (Distribute s words marks aims) = moving distribute s words marks aims

@@ -6,18 +6,18 @@ use Prim.Native.Nat.{ℕ, suc, _<_}
 use native.Mathlib.Omega.{arith}
 use lib.ListN.{length, take, drop}
 use lib.Dec.{eqb}
-use Rattle.texts.specs.Lines.{before, ended, unended, front, linesOf}
+use Rattle.texts.specs.Lines.{bytesBefore, ended, unended, withByte, linesOf}
 use Rattle.texts.specs.Bytes.{lf}
 
 -- a text that has an LF: its first line, and the lines of what follows
 abbrev Ended : List ℕ → Type 0
-Ended s = before lf s < length s → linesOf s ≡ ended (take (before lf s) s) ∷ linesOf (drop (suc (before lf s)) s)
+Ended s = bytesBefore lf s < length s → linesOf s ≡ ended (take (bytesBefore lf s) s) ∷ linesOf (drop (suc (bytesBefore lf s)) s)
 
 ended-cons : (b : ℕ) (s : List ℕ) (t : Bool) → eqb b lf ≡ t → Ended s → Ended (b ∷ s)
-unfolding linesOf before front
+unfolding linesOf bytesBefore withByte
 ended-cons b s true e ih h = rw e
 ended-cons b s false e ih h =
-    let h′ : suc (before lf s) < suc (length s) = rw e at h in
+    let h′ : suc (bytesBefore lf s) < suc (length s) = rw e at h in
     rw (e, ih (omega arith))
 
 pub lines-ended : (s : List ℕ) → Ended s
@@ -26,14 +26,14 @@ lines-ended (b ∷ s) h = ended-cons b s (eqb b lf) refl (lines-ended s) h
 
 -- a text that has bytes and no LF
 abbrev Unended : List ℕ → Type 0
-Unended s = before lf s ≡ length s → 0 < length s → linesOf s ≡ unended ∷ []
+Unended s = bytesBefore lf s ≡ length s → 0 < length s → linesOf s ≡ unended ∷ []
 
 unended-cons : (b : ℕ) (s : List ℕ) (t : Bool) → eqb b lf ≡ t → Unended s → Unended (b ∷ s)
-unfolding linesOf before front
+unfolding linesOf bytesBefore withByte
 unended-cons b s true e ih h p = absurd (omega (arith, rw e at h))
 unended-cons b [] false e ih h p = rw e
 unended-cons b (x ∷ s) false e ih h p =
-    let h′ : suc (before lf (x ∷ s)) ≡ suc (suc (length s)) = rw e at h in
+    let h′ : suc (bytesBefore lf (x ∷ s)) ≡ suc (suc (length s)) = rw e at h in
     rw (e, ih (omega arith) (omega arith))
 
 pub lines-unended : (s : List ℕ) → Unended s

@@ -10,37 +10,37 @@ use lib.Seq.{drop-cons}
 use lib.Dec.{leb, ltb, eqb}
 use borrow.Author.Tests.{eq-eqb, ne-eqb, le-leb, lt-leb, lt-ltb, le-ltb}
 use Rattle.texts.specs.Bytes.{same}
-use Rattle.texts.specs.Lines.{before}
+use Rattle.texts.specs.Lines.{bytesBefore}
 use Rattle.texts.specs.Numbers.{digitsFrom, numberOf}
 use Rattle.texts.specs.declared.read.Number.the-variants.{Of, Not}
 
 -- the first b is at i
-pub before-found : (b : ℕ) (s : List ℕ) (i : ℕ) → i < length s → getD s i 0 ≡ b → before b (drop i s) ≡ 0
-unfolding before
-before-found b s i h e = rw (drop-cons s i 0 h, eq-eqb _ _ e)
+pub bytes-before-found : (b : ℕ) (s : List ℕ) (i : ℕ) → i < length s → getD s i 0 ≡ b → bytesBefore b (drop i s) ≡ 0
+unfolding bytesBefore
+bytes-before-found b s i h e = rw (drop-cons s i 0 h, eq-eqb _ _ e)
 
 -- it is past i
-pub before-passed : (b : ℕ) (s : List ℕ) (i : ℕ) → i < length s → (getD s i 0 ≡ b → ⊥) → before b (drop i s) ≡ suc (before b (drop (i + 1) s))
-unfolding before
-before-passed b s i h e = rw (drop-cons s i 0 h, add-one, ne-eqb _ _ e)
+pub bytes-before-passed : (b : ℕ) (s : List ℕ) (i : ℕ) → i < length s → (getD s i 0 ≡ b → ⊥) → bytesBefore b (drop i s) ≡ suc (bytesBefore b (drop (i + 1) s))
+unfolding bytesBefore
+bytes-before-passed b s i h e = rw (drop-cons s i 0 h, add-one, ne-eqb _ _ e)
 
-pub before-none : (b : ℕ) (s : List ℕ) (i : ℕ) → length s ≤ i → before b (drop i s) ≡ 0
-unfolding before
-before-none b s i h = rw (lib.ListN.drop-of-length-le s h)
+pub bytes-before-none : (b : ℕ) (s : List ℕ) (i : ℕ) → length s ≤ i → bytesBefore b (drop i s) ≡ 0
+unfolding bytesBefore
+bytes-before-none b s i h = rw (lib.ListN.drop-of-length-le s h)
 
 -- `find`: where it stands in s, and what is left
 pub record Sought (b : ℕ) (s : List ℕ) (i : ℕ) : Type 0 where
   pub within : i ≤ length s
-  pub left : i + before b (drop i s) ≡ before b s
+  pub left : i + bytesBefore b (drop i s) ≡ bytesBefore b s
 
-pub sought-found : {b : ℕ} {s : List ℕ} {i : ℕ} → Sought b s i → i < length s → getD s i 0 ≡ b → (i ≡ before b s) × (i ≤ length s)
-sought-found {b} {s} {i} k h e = omega (arith, before-found b s i h e)
+pub sought-found : {b : ℕ} {s : List ℕ} {i : ℕ} → Sought b s i → i < length s → getD s i 0 ≡ b → (i ≡ bytesBefore b s) × (i ≤ length s)
+sought-found {b} {s} {i} k h e = omega (arith, bytes-before-found b s i h e)
 
 pub sought-next : {b : ℕ} {s : List ℕ} {i : ℕ} → Sought b s i → i < length s → (getD s i 0 ≡ b → ⊥) → Sought b s (i + 1)
-sought-next {b} {s} {i} k h e = omega (arith, before-passed b s i h e)
+sought-next {b} {s} {i} k h e = omega (arith, bytes-before-passed b s i h e)
 
-pub sought-end : {b : ℕ} {s : List ℕ} {i : ℕ} → Sought b s i → length s ≤ i → (i ≡ before b s) × (i ≤ length s)
-sought-end {b} {s} {i} k h = omega (arith, before-none b s i h)
+pub sought-end : {b : ℕ} {s : List ℕ} {i : ℕ} → Sought b s i → length s ≤ i → (i ≡ bytesBefore b s) × (i ≤ length s)
+sought-end {b} {s} {i} k h = omega (arith, bytes-before-none b s i h)
 
 -- `same`
 pub record Alike (a b : List ℕ) (i : ℕ) : Type 0 where

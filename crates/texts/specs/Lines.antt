@@ -7,28 +7,28 @@ use lib.Dec.{eqb}
 use Rattle.texts.specs.Bytes.{tab, lf}
 
 -- how many bytes stand before the first b: all of them where there is none
-unfoldable pub before : ℕ → List ℕ → ℕ
-before b [] = 0
-before b (x ∷ s) = cond (eqb x b) 0 (suc (before b s))
+unfoldable pub bytesBefore : ℕ → List ℕ → ℕ
+bytesBefore b [] = 0
+bytesBefore b (x ∷ s) = cond (eqb x b) 0 (suc (bytesBefore b s))
 
 -- the fields, parted by one tab; where there is no tab the second is empty, and a second tab stands in the second field
 unfoldable pub firstField : List ℕ → List ℕ
-firstField line = take (before tab line) line
+firstField line = take (bytesBefore tab line) line
 
 unfoldable pub secondField : List ℕ → List ℕ
-secondField line = drop (suc (before tab line)) line
+secondField line = drop (suc (bytesBefore tab line)) line
 
 -- a line ends in LF; what stands behind the last LF, where that is anything, is a line that does not
-pub data Line : Type 0 where
-  ended : List ℕ → Line
-  unended : Line
+pub data TextLine : Type 0 where
+  ended : List ℕ → TextLine
+  unended : TextLine
 
 -- lines with one byte more in front
-unfoldable pub front : ℕ → List Line → List Line
-front b [] = unended ∷ []
-front b (unended ∷ ls) = unended ∷ ls
-front b (ended line ∷ ls) = ended (b ∷ line) ∷ ls
+unfoldable pub withByte : ℕ → List TextLine → List TextLine
+withByte b [] = unended ∷ []
+withByte b (unended ∷ ls) = unended ∷ ls
+withByte b (ended line ∷ ls) = ended (b ∷ line) ∷ ls
 
-unfoldable pub linesOf : List ℕ → List Line
+unfoldable pub linesOf : List ℕ → List TextLine
 linesOf [] = []
-linesOf (b ∷ s) = cond (eqb b lf) (ended [] ∷ linesOf s) (front b (linesOf s))
+linesOf (b ∷ s) = cond (eqb b lf) (ended [] ∷ linesOf s) (withByte b (linesOf s))

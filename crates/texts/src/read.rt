@@ -3,7 +3,7 @@ ghost use mathlib.Core.Path.{_≡_};
 ghost use Prim.Native.Nat.{_≤_};
 ghost use lib.ListN.{length};
 ghost use Rattle.texts.specs.Bytes.{same as sameBytes};
-ghost use Rattle.texts.specs.Lines.{before};
+ghost use Rattle.texts.specs.Lines.{bytesBefore};
 ghost use Rattle.texts.specs.Numbers.{digitsFrom, numberOf};
 
 // What a field is as a number.
@@ -14,7 +14,7 @@ pub enum Number {
 
 // How many bytes stand before the first b: all of them where there is none.
 pub fn bytes_before(s: &[u8], b: u8) -> usize
-    ensures { λ r. ⌜ r ≡ before b (now (s .entry)) ⌝ }
+    ensures { λ r. ⌜ r ≡ bytesBefore b (now (s .entry)) ⌝ }
     ensures { λ r. ⌜ r ≤ length (now (s .entry)) ⌝ }
 {
     let mut i = 0;
@@ -56,11 +56,11 @@ pub fn number_of(field: &[u8]) -> Number
             return Number::Not;
         }
     }
-    digits(field)
+    digits_from(field)
 }
 
 // The number that digits write, read from the left.
-fn digits(field: &[u8]) -> Number
+fn digits_from(field: &[u8]) -> Number
     ensures { λ r. ⌜ r ≡ digitsFrom 0 (now (field .entry)) ⌝ }
 {
     let mut n: u64 = 0;

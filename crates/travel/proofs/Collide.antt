@@ -14,8 +14,8 @@ use Rattle.array.specs.Moves.{opposite}
 use Rattle.lists.proofs.Counts.{concentrate-length}
 use Rattle.travel.specs.Travel.{toward, heading, concentrateMoves, travel, stands}
 use Rattle.travel.proofs.Line.{near-lt, near-all, near-back, Before, before-mod, before-div, meet, Lined, no-three}
-use Rattle.travel.proofs.Walk.{Steps, none, made, onto, tally, rowOf, columnOf, seat, seat<, going, Heads, step-on, undone, start}
-use Rattle.travel.proofs.Listed.{swapsOf}
+use Rattle.travel.proofs.Walk.{Steps, noSteps, stepsTo, onto, tally, rowOf, columnOf, seat, seat<, going, Heads, step-on, undone, start}
+use Rattle.travel.proofs.Listed.{swapsAfter}
 use Rattle.travel.proofs.Shape.{Straight, in-rows, in-columns, Full, Concentrates, concentrates}
 
 -- two numbers of two digits that are equal: digit by digit
@@ -90,7 +90,7 @@ module _ (s : ℕ) (pos : 0 < s) where
     spot-on (suc (suc swaps)) c w few = absurd (omega arith)
 
     pub spot-back : (swaps : ℕ) (c : Steps) (w : Way) → swaps ≤ 1
-        → going s (opposite w) (made w c) (heading s swaps i) (spot s swaps (onto (Electronic w) c) i r) ≡ spot s swaps c i r
+        → going s (opposite w) (stepsTo w c) (heading s swaps i) (spot s swaps (onto (Electronic w) c) i r) ≡ spot s swaps c i r
     spot-back zero c w few = undone heads₁ (group s i) c w
     spot-back (suc zero) c w few = undone heads₂ (r % groups s) c w
     spot-back (suc (suc swaps)) c w few = absurd (omega arith)
@@ -117,7 +117,7 @@ module _ (s : ℕ) (pos : 0 < s) where
         )
         (div-add-mod' (r / groups s) s)
 
-    spot-swapped : (swaps : ℕ) (c : Steps) → swaps ≤ 1 → Full s swaps c → partner s (spot s swaps c i r) ≡ spot s (suc swaps) none i r
+    spot-swapped : (swaps : ℕ) (c : Steps) → swaps ≤ 1 → Full s swaps c → partner s (spot s swaps c i r) ≡ spot s (suc swaps) noSteps i r
     spot-swapped zero c few f = swapped (group s i) (seat< heads₁ c) ∙ ap (λ (g : ℕ). cell s g (group s i)) (arrived c f) ∙ start s (r % groups s) (group s i) (r / groups s)
     spot-swapped (suc zero) c few f = swapped (r % groups s) (seat< heads₂ c) ∙ ap (λ (g : ℕ). cell s g (r % groups s)) (at-home c f) ∙ div-add-mod' r (groups s)
     spot-swapped (suc (suc swaps)) c few f = absurd (omega arith)
@@ -125,8 +125,8 @@ module _ (s : ℕ) (pos : 0 < s) where
 -- what k moves of a list of the shape leave, from so many swaps and moves of a half
 pub record Reached (s swaps : ℕ) (c : Steps) (ms : List Move) (k : ℕ) : Type 0 where
   pub straight : Straight s (tally (take k ms) c)
-  pub rest : Concentrates s (swapsOf (take k ms) swaps) (tally (take k ms) c) (drop k ms)
-  pub stood : (i r : ℕ) → Starts s i r → travel s swaps r (take k ms) (spot s swaps c i r) ≡ spot s (swapsOf (take k ms) swaps) (tally (take k ms) c) i r
+  pub rest : Concentrates s (swapsAfter (take k ms) swaps) (tally (take k ms) c) (drop k ms)
+  pub stood : (i r : ℕ) → Starts s i r → travel s swaps r (take k ms) (spot s swaps c i r) ≡ spot s (swapsAfter (take k ms) swaps) (tally (take k ms) c) i r
 
 module _ (s : ℕ) (pos : 0 < s) where
   reached : (swaps : ℕ) (c : Steps) (ms : List Move) → Straight s c → Concentrates s swaps c ms → (k : ℕ) → Reached s swaps c ms k
@@ -134,7 +134,7 @@ module _ (s : ℕ) (pos : 0 < s) where
   reached swaps c [] z f (suc k) = record { straight = z; rest = f; stood = λ i r o. refl }
   reached swaps c (m ∷ ms) z f zero = record { straight = z; rest = f; stood = λ i r o. refl }
   reached swaps c (Swap ∷ ms) z f (suc k) =
-      let t = reached (suc swaps) none ms (in-rows refl refl) (f .2) k in
+      let t = reached (suc swaps) noSteps ms (in-rows refl refl) (f .2) k in
       record {
         straight = t .straight;
         rest = t .rest;
@@ -172,22 +172,22 @@ module _ (s : ℕ) (pos : 0 < s) where
   meeting (suc (suc swaps)) c z = record { X = λ i. i; Q = λ r. r; meets = λ f o o' e. absurd (omega (arith, f)) }
 
   -- a list of the shape, from the start
-  module _ (ms : List Move) (f : Concentrates s 0 none ms) (k : ℕ) where
-    pub from-start : Reached s 0 none ms k
-    from-start = reached 0 none ms (in-rows refl refl) f k
+  module _ (ms : List Move) (f : Concentrates s 0 noSteps ms) (k : ℕ) where
+    pub from-start : Reached s 0 noSteps ms k
+    from-start = reached 0 noSteps ms (in-rows refl refl) f k
 
-    pub stood-at : {i r : ℕ} → Starts s i r → travel s 0 r (take k ms) i ≡ spot s (swapsOf (take k ms) 0) (tally (take k ms) none) i r
+    pub stood-at : {i r : ℕ} → Starts s i r → travel s 0 r (take k ms) i ≡ spot s (swapsAfter (take k ms) 0) (tally (take k ms) noSteps) i r
     stood-at {i} {r} o = ap (travel s 0 r (take k ms)) (sym (div-add-mod' i (groups s)) ∙ start s (group s i) (place s i) r) ∙ from-start .stood i r o
 
     pub never-three-by : {i r i' r' i'' r'' : ℕ} → Before i r i' r' → Before i' r' i'' r'' → Starts s i r → Starts s i' r' → Starts s i'' r''
         → travel s 0 r (take k ms) i ≡ travel s 0 r' (take k ms) i' → travel s 0 r' (take k ms) i' ≡ travel s 0 r'' (take k ms) i'' → ⊥
     never-three-by b b' o o' o'' e e' =
-        let l = meeting (swapsOf (take k ms) 0) (tally (take k ms) none) (from-start .straight) in
+        let l = meeting (swapsAfter (take k ms) 0) (tally (take k ms) noSteps) (from-start .straight) in
         no-three pos l b b' o o' o'' (sym (stood-at o) ∙ e ∙ stood-at o') (sym (stood-at o') ∙ e' ∙ stood-at o'')
 
     pub at-the-end-by : {i r : ℕ} → length ms ≤ k → Starts s i r → travel s 0 r (take k ms) i ≡ r
     at-the-end-by {i} {r} h o =
-        let two : swapsOf (take k ms) 0 ≡ 2 = rw (drop-of-length-le ms h) at (from-start .rest) in
+        let two : swapsAfter (take k ms) 0 ≡ 2 = rw (drop-of-length-le ms h) at (from-start .rest) in
         stood-at o ∙ rw two
 
 -- b records, in cells that rise with their ranks

@@ -20,14 +20,14 @@ use Rattle.runs.specs.Runs.{swapsIn, swaps, moves}
 use Rattle.travel.specs.Turns.{turnIn}
 
 -- how many swaps are made once some moves are made, where so many were made before them
-abbrev pub swapsOf : List Move → ℕ → ℕ
-swapsOf [] swaps = swaps
-swapsOf (Swap ∷ ms) swaps = swapsOf ms (suc swaps)
-swapsOf (Electronic w ∷ ms) swaps = swapsOf ms swaps
+abbrev pub swapsAfter : List Move → ℕ → ℕ
+swapsAfter [] swaps = swaps
+swapsAfter (Swap ∷ ms) swaps = swapsAfter ms (suc swaps)
+swapsAfter (Electronic w ∷ ms) swaps = swapsAfter ms swaps
 
 -- the move of run r of which t were made
 abbrev pub inRun : Run → ℕ → ℕ → Turn
-inRun r swaps t = record { step = r .step; left = r .times - t; swaps = swaps + swapsIn (r .step) t }
+inRun r swaps t = record { step = r .step; remaining = r .times - t; swaps = swaps + swapsIn (r .step) t }
 
 pub turn-here : (r : Run) (rs : List Run) (swaps k : ℕ) → k < r .times → turnIn (r ∷ rs) swaps k ≡ inRun r swaps k
 turn-here r rs swaps k h = rw (lt-ltb k (r .times) h)
@@ -43,7 +43,7 @@ module _ (rs : List Run) (q swaps k : ℕ) (d : Run) (h : q < length rs) where
   pub turn-next : getD rs q d .times ≤ k → turnIn (drop q rs) swaps k ≡ turnIn (drop (q + 1) rs) (swaps + swapsIn (getD rs q d .step) (getD rs q d .times)) (k - getD rs q d .times)
   turn-next l = rw (drop-cons rs q d h, add-one) (turn-past (getD rs q d) (drop (suc q) rs) swaps k l)
 
-pub turn-none : (rs : List Run) (q swaps k : ℕ) → length rs ≤ q → turnIn (drop q rs) swaps k ≡ record { step = Swap; left = 0; swaps = swaps }
+pub turn-none : (rs : List Run) (q swaps k : ℕ) → length rs ≤ q → turnIn (drop q rs) swaps k ≡ record { step = Swap; remaining = 0; swaps = swaps }
 turn-none rs q swaps k h = rw (drop-of-length-le rs h)
 
 pub few-swaps : (m : Move) (n : ℕ) → swapsIn m n ≤ n
@@ -73,9 +73,9 @@ module _ (m : Move) (ms : List Move) where
   take-past-run (suc t) zero h = absurd (omega arith)
   take-past-run (suc t) (suc k) h = rw suc-sub-suc (ap (λ (l : List Move). m ∷ l) (take-past-run t k (omega arith)))
 
-swaps-run : (m : Move) (t : ℕ) (ms : List Move) (swaps : ℕ) → swapsOf (replicate t m ++ ms) swaps ≡ swapsOf ms (swaps + swapsIn m t)
-swaps-run m zero ms swaps = ap (swapsOf ms) (omega (arith, few-swaps m 0))
-swaps-run Swap (suc t) ms swaps = swaps-run Swap t ms (suc swaps) ∙ ap (swapsOf ms) (omega arith)
+swaps-run : (m : Move) (t : ℕ) (ms : List Move) (swaps : ℕ) → swapsAfter (replicate t m ++ ms) swaps ≡ swapsAfter ms (swaps + swapsIn m t)
+swaps-run m zero ms swaps = ap (swapsAfter ms) (omega (arith, few-swaps m 0))
+swaps-run Swap (suc t) ms swaps = swaps-run Swap t ms (suc swaps) ∙ ap (swapsAfter ms) (omega arith)
 swaps-run (Electronic w) (suc t) ms swaps = swaps-run (Electronic w) t ms swaps
 
 pub turn-step : (rs : List Run) (swaps k : ℕ) → getD (moves rs) k Swap ≡ turnIn rs swaps k .step
@@ -89,17 +89,17 @@ turn-step (r ∷ rs) swaps k =
           ∙ sym (ap (λ (x : Turn). x .step) (turn-past r rs swaps k (omega arith)))
     ]
 
-pub turn-swaps : (rs : List Run) (swaps k : ℕ) → swapsOf (take k (moves rs)) swaps ≡ turnIn rs swaps k .swaps
+pub turn-swaps : (rs : List Run) (swaps k : ℕ) → swapsAfter (take k (moves rs)) swaps ≡ turnIn rs swaps k .swaps
 turn-swaps [] swaps zero = refl
 turn-swaps [] swaps (suc k) = refl
 turn-swaps (r ∷ rs) swaps k =
     elim (decLt k (r .times)) [
       | yes h ↦
-          ap (λ (ms : List Move). swapsOf ms swaps) (take-in-run (r .step) (moves rs) (r .times) k (omega arith))
+          ap (λ (ms : List Move). swapsAfter ms swaps) (take-in-run (r .step) (moves rs) (r .times) k (omega arith))
           ∙ swaps-run (r .step) k [] swaps
           ∙ sym (ap (λ (x : Turn). x .swaps) (turn-here r rs swaps k h))
       | no h ↦
-          ap (λ (ms : List Move). swapsOf ms swaps) (take-past-run (r .step) (moves rs) (r .times) k (omega arith))
+          ap (λ (ms : List Move). swapsAfter ms swaps) (take-past-run (r .step) (moves rs) (r .times) k (omega arith))
           ∙ swaps-run (r .step) (r .times) (take (k - r .times) (moves rs)) swaps
           ∙ turn-swaps rs (swaps + swapsIn (r .step) (r .times)) (k - r .times)
           ∙ sym (ap (λ (x : Turn). x .swaps) (turn-past r rs swaps k (omega arith)))
@@ -144,10 +144,10 @@ turn-behind (r ∷ rs) ys a j =
     ∙ turn-past (turnedRun r) ys (a + swaps rs) (r .times + j) (omega arith)
     ∙ ap₂ (turnIn ys) (omega (arith, swaps-turned (r .step) (r .times))) (omega arith)
 
--- a move that undoes a move of which so many of the run were made: it is turned round, and as many of its run are left, with itself
+-- a move that undoes a move of which so many of the run were made: it is turned round, and as many of its run remain, with itself
 pub record Undoes (x : Turn) (done total : ℕ) (y : Turn) : Type 0 where
   pub step : y .step ≡ turned (x .step)
-  pub left : y .left ≡ suc done
+  pub remaining : y .remaining ≡ suc done
   pub swaps : x .swaps + y .swaps + swapsIn (x .step) 1 ≡ total
 
 -- move k of runs is undone by the move of the runs backwards that has as many moves before it as move k has behind
@@ -162,7 +162,7 @@ turn-back (r ∷ rs) ys a b k k' total e f =
           let g : turnIn (backOnto rs (back ∷ ys)) b k' ≡ inRun back (b + swaps rs) j =
           ap (turnIn (backOnto rs (back ∷ ys)) b) (omega arith) ∙ turn-behind rs (back ∷ ys) b j ∙ turn-here back ys (b + swaps rs) j (omega arith) in
           rw (lt-ltb k (r .times) h, g)
-          (record { step = refl; left = omega arith; swaps = omega (arith, swaps-around (r .step) (r .times) k h) })
+          (record { step = refl; remaining = omega arith; swaps = omega (arith, swaps-around (r .step) (r .times) k h) })
       | no h ↦
           rw (le-ltb k (r .times) (omega arith))
           (turn-back rs (back ∷ ys) (a + swapsIn (r .step) (r .times)) b (k - r .times) k' total (omega arith) (omega arith))

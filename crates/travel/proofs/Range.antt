@@ -10,14 +10,14 @@ use Rattle.array.specs.declared.moves.Way.{Way}
 use Rattle.array.specs.declared.moves.Move.{Move}
 use Rattle.array.specs.declared.moves.Move.the-variants.{Swap, Electronic}
 use Rattle.array.specs.Cells.{cells, cell, place, group, partner}
-use Rattle.travel.proofs.Listed.{swapsOf, turn-step, turn-swaps}
+use Rattle.travel.proofs.Listed.{swapsAfter, turn-step, turn-swaps}
 use Rattle.runs.specs.declared.Run.{Run}
 use Rattle.runs.specs.Runs.{moves}
 use Rattle.lists.specs.Lists.{concentrateRuns}
 use Rattle.lists.proofs.Counts.{concentrate-length}
 use Rattle.travel.specs.Travel.{concentrateMoves, toward, heading, travel, stands}
 use Rattle.travel.specs.Turns.{turnIn}
-use Rattle.travel.proofs.Walk.{none, onto, Heads, seat<, start, step-on}
+use Rattle.travel.proofs.Walk.{noSteps, onto, Heads, seat<, start, step-on}
 
 module _ (s : ℕ) (pos : 1 ≤ s) where
   pos² : 0 < s * s
@@ -26,7 +26,7 @@ module _ (s : ℕ) (pos : 1 ≤ s) where
   -- where a record goes by one electronic move: a place of its group
   within : (w : Way) (h i : ℕ) → h < s * s → (p : ℕ) × (p < s * s) × (toward s w h i ≡ cell s (group s i) p)
   within w h i l =
-      (_, seat< t (onto (Electronic w) none), ap (toward s w h) (sym (div-add-mod' i (s * s)) ∙ start s (group s i) (place s i) h) ∙ step-on t (group s i) none w)
+      (_, seat< t (onto (Electronic w) noSteps), ap (toward s w h) (sym (div-add-mod' i (s * s)) ∙ start s (group s i) (place s i) h) ∙ step-on t (group s i) noSteps w)
     where
       t : Heads s (place s i) h h
       t = record { pos = pos; inside = mod-lt i pos²; inColumn = refl; inRow = sym (mod-eq-of-lt (div-lt-iff-lt-mul pos .1 l)) }
@@ -49,7 +49,7 @@ module _ (s : ℕ) (pos : 1 ≤ s) where
   stands-in-range k r i l h = in-range 0 r (take k (concentrateMoves s)) i l h
 
 -- one move more
-travel-append : (s swaps r : ℕ) (xs ys : List Move) (i : ℕ) → travel s swaps r (xs ++ ys) i ≡ travel s (swapsOf xs swaps) r ys (travel s swaps r xs i)
+travel-append : (s swaps r : ℕ) (xs ys : List Move) (i : ℕ) → travel s swaps r (xs ++ ys) i ≡ travel s (swapsAfter xs swaps) r ys (travel s swaps r xs i)
 travel-append s swaps r [] ys i = refl
 travel-append s swaps r (Swap ∷ xs) ys i = travel-append s (suc swaps) r xs ys (partner s i)
 travel-append s swaps r (Electronic w ∷ xs) ys i = travel-append s swaps r xs ys (toward s w (heading s swaps r) i)

@@ -18,8 +18,8 @@ use Rattle.runs.specs.Runs.{moves, swapsIn, swaps}
 use Rattle.lists.specs.Lists.{concentrateRuns, distributeRuns}
 use Rattle.travel.specs.Turns.{turnIn, turnAt}
 use Rattle.travel.specs.Travel.{toward, heading, travel}
-use Rattle.travel.proofs.Listed.{swapsOf, timesOf, times-moves, doneIn, turn-step, turn-swaps, take-in-run, take-past-run, backOnto, Undoes, turn-back}
-use Rattle.travel.proofs.Walk.{Steps, none, made, onto, tally, going}
+use Rattle.travel.proofs.Listed.{swapsAfter, timesOf, times-moves, doneIn, turn-step, turn-swaps, take-in-run, take-past-run, backOnto, Undoes, turn-back}
+use Rattle.travel.proofs.Walk.{Steps, noSteps, stepsTo, onto, tally, going}
 use Rattle.travel.proofs.Shape.{Concentrates, Like, Fresh, concentrates, fresh}
 use Rattle.travel.proofs.Collide.{Starts, spot, spot-on, spot-back, from-start, stood-at}
 use Rattle.travel.proofs.Range.{travel-suc}
@@ -64,7 +64,7 @@ pub record Leg (s : ℕ) (forth back : List Run) (k k' : ℕ) (w : Way) (swaps :
   pub back-turn : turnAt back k' .swaps ≡ 2 - swaps
   pub goes-on : (r i : ℕ) → standsBy s forth (suc k) r i ≡ toward s w (heading s swaps r) (standsBy s forth k r i)
   pub goes-back : (r i : ℕ) → Starts s i r
-      → standsBy s forth k r i ≡ going s (opposite w) (turnAt back k' .left - 1) (heading s swaps i) (standsBy s forth (suc k) r i)
+      → standsBy s forth k r i ≡ going s (opposite w) (turnAt back k' .remaining - 1) (heading s swaps i) (standsBy s forth (suc k) r i)
 
 -- both are swaps, or both are electronic
 pub data StageBy (s : ℕ) (forth back : List Run) (k k' : ℕ) : Type 0 where
@@ -73,14 +73,14 @@ pub data StageBy (s : ℕ) (forth back : List Run) (k k' : ℕ) : Type 0 where
   leg : (w : Way) (swaps : ℕ) → Leg s forth back k k' w swaps → StageBy s forth back k k'
 
 -- a list of the shape, and the list backwards: move k is undone by the move that has as many before it as move k has behind
-module _ (s : ℕ) (pos : 1 ≤ s) (rs : List Run) (shape : Concentrates s 0 none (moves rs)) (begun : Fresh none rs) (two : swaps rs ≡ 2)
+module _ (s : ℕ) (pos : 1 ≤ s) (rs : List Run) (shape : Concentrates s 0 noSteps (moves rs)) (begun : Fresh noSteps rs) (two : swaps rs ≡ 2)
     (k k' : ℕ) (e : k + suc k' ≡ timesOf rs) where
   -- the swaps and the moves of the half that are made before move k
   abbrev n : ℕ
-  n = swapsOf (take k (moves rs)) 0
+  n = swapsAfter (take k (moves rs)) 0
 
   abbrev c : Steps
-  c = tally (take k (moves rs)) none
+  c = tally (take k (moves rs)) noSteps
 
   inside : k < length (moves rs)
   inside = rw (times-moves rs) (omega arith)
@@ -98,15 +98,15 @@ module _ (s : ℕ) (pos : 1 ≤ s) (rs : List Run) (shape : Concentrates s 0 non
         drop-cons (moves rs) k Swap inside ∙ ap (λ (m : Move). m ∷ drop (suc k) (moves rs)) (turn-step rs 0 k ∙ f) in
         subst (Concentrates s n c) here (from-start s pos (moves rs) shape k .rest) .0
 
-    wait : turnIn (backOnto rs []) 0 k' .left - 1 ≡ made w c
+    wait : turnIn (backOnto rs []) 0 k' .remaining - 1 ≡ stepsTo w c
     wait =
-        let l : made w c ≡ doneIn rs k = subst (λ (m : Move). Like m c (doneIn rs k)) f (like rs none 0 k (omega arith) begun) in
-        omega (arith, undo .left)
+        let l : stepsTo w c ≡ doneIn rs k = subst (λ (m : Move). Like m c (doneIn rs k)) f (like rs noSteps 0 k (omega arith) begun) in
+        omega (arith, undo .remaining)
 
     on : (r i : ℕ) → standsBy s rs (suc k) r i ≡ toward s w (heading s n r) (standsBy s rs k r i)
     on r i = travel-suc s rs k r i inside ∙ rw (f, turn-is)
 
-    back : (r i : ℕ) → Starts s i r → standsBy s rs k r i ≡ going s (opposite w) (turnIn (backOnto rs []) 0 k' .left - 1) (heading s n i) (standsBy s rs (suc k) r i)
+    back : (r i : ℕ) → Starts s i r → standsBy s rs k r i ≡ going s (opposite w) (turnIn (backOnto rs []) 0 k' .remaining - 1) (heading s n i) (standsBy s rs (suc k) r i)
     back r i o =
         let at = stood-at s pos (moves rs) shape k o in
         let next : standsBy s rs (suc k) r i ≡ spot s n (onto (Electronic w) c) i r = on r i ∙ ap (toward s w (heading s n r)) at ∙ spot-on s pos o n c w few in
@@ -132,8 +132,8 @@ module _ (s : ℕ) (pos : 1 ≤ s) (rs : List Run) (shape : Concentrates s 0 non
       go (Electronic w) f = leg w n (electronic w f)
 
 -- so of concentrate and distribute
-abbrev pub Stage : ℕ → ℕ → ℕ → Type 0
-Stage s k k' = StageBy s (concentrateRuns s) (distributeRuns s) k k'
+abbrev pub StageBack : ℕ → ℕ → ℕ → Type 0
+StageBack s k k' = StageBy s (concentrateRuns s) (distributeRuns s) k k'
 
-pub stage : (s : ℕ) → 1 ≤ s → (k k' : ℕ) → k + k' ≡ 7 * (s - 1) + 1 → Stage s k k'
-stage s pos k k' e = stage-by s pos (concentrateRuns s) (concentrates s) (fresh s) refl k k' (omega arith)
+pub stage-back : (s : ℕ) → 1 ≤ s → (k k' : ℕ) → k + k' ≡ 7 * (s - 1) + 1 → StageBack s k k'
+stage-back s pos k k' e = stage-by s pos (concentrateRuns s) (concentrates s) (fresh s) refl k k' (omega arith)

@@ -26,19 +26,19 @@ pub record Steps : Type 0 where
   pub ups : ℕ
   pub downs : ℕ
 
-abbrev pub none : Steps
-none = record { rights = 0; lefts = 0; ups = 0; downs = 0 }
+abbrev pub noSteps : Steps
+noSteps = record { rights = 0; lefts = 0; ups = 0; downs = 0 }
 
 -- of some moves those one way
-abbrev pub made : Way → Steps → ℕ
-made Right c = c .rights
-made Left c = c .lefts
-made Up c = c .ups
-made Down c = c .downs
+abbrev pub stepsTo : Way → Steps → ℕ
+stepsTo Right c = c .rights
+stepsTo Left c = c .lefts
+stepsTo Up c = c .ups
+stepsTo Down c = c .downs
 
 -- with one move more: a swap begins a new half
 abbrev pub onto : Move → Steps → Steps
-onto Swap c = none
+onto Swap c = noSteps
 onto (Electronic Right) c = record { rights = suc (c .rights); lefts = c .lefts; ups = c .ups; downs = c .downs }
 onto (Electronic Left) c = record { rights = c .rights; lefts = suc (c .lefts); ups = c .ups; downs = c .downs }
 onto (Electronic Up) c = record { rights = c .rights; lefts = c .lefts; ups = suc (c .ups); downs = c .downs }
@@ -110,11 +110,11 @@ module _ {s p q h : ℕ} (t : Heads s p q h) where
     step-on Down = downward g h 0 (x< c) (y< c) (t .inColumn) (t .inRow) (omega arith)
 
     -- the last move of a way is undone by a record that made them all: it is further from its start than the others took it
-    pub undone : (w : Way) → going s (opposite w) (made w c) p (cell s g (seat s p q (onto (Electronic w) c))) ≡ cell s g (seat s p q c)
+    pub undone : (w : Way) → going s (opposite w) (stepsTo w c) p (cell s g (seat s p q (onto (Electronic w) c))) ≡ cell s g (seat s p q c)
     undone Right = let e = onto (Electronic Right) c in leftward g p (c .rights) (x< e) (y< e) refl refl (undo-up (c .rights) (c .lefts) (p % s) (q % s))
     undone Left = let e = onto (Electronic Left) c in rightward g p (c .lefts) (x< e) (y< e) refl refl (undo-down (c .rights) (c .lefts) (p % s) (q % s))
     undone Up = let e = onto (Electronic Up) c in downward g p (c .ups) (x< e) (y< e) refl refl (undo-down (c .downs) (c .ups) (p / s) (q / s % s))
     undone Down = let e = onto (Electronic Down) c in upward g p (c .downs) (x< e) (y< e) refl refl (undo-up (c .downs) (c .ups) (p / s) (q / s % s))
 
-pub start : (s g p q : ℕ) → cell s g p ≡ cell s g (seat s p q none)
+pub start : (s g p q : ℕ) → cell s g p ≡ cell s g (seat s p q noSteps)
 start s g p q = simp near-none (omega (arith, div-add-mod' p s))

@@ -15,7 +15,7 @@ use Rattle.array.specs.Cells.{isCell}
 use Rattle.lists.specs.Lists.{broadcastRuns, dataSumRuns, prefixSumRuns}
 use Rattle.shiftlists.specs.Shifts.{distanceOf, within, shiftRuns}
 use Rattle.answers.specs.Answers.{caseOf, sideCase, laneCase, logCase}
-use Rattle.answers.specs.Entry.{Entry, Logged}
+use Rattle.answers.specs.Entry.{Entry, CodesLogged}
 use Rattle.spreads.specs.Results.{broadcastWords, dataSumWords}
 use Rattle.prefix.specs.Results.{prefixSumWords}
 use Rattle.shifts.specs.Results.{shiftWords}
@@ -42,7 +42,7 @@ shiftCases s axis edge k n log = sideCase s ∷ laneCase s n ∷ logCase (shiftR
 -- an entry on words, by its table of cases, its list and its result
 abbrev pub OnWords : (ℕ → ℕ → List Case) → List Run → (List ℕ → List ℕ) → Lent → Lent → Answer → Type 0
 OnWords cases list result words log =
-    Entry (cases (length (old words)) (length (old log))) list (new words ≡ result (old words)) (Logged list log) (Kept words × Kept log)
+    Entry (cases (length (old words)) (length (old log))) list (new words ≡ result (old words)) (CodesLogged list log) (Kept words × Kept log)
 
 abbrev pub Broadcast : ℕ → ℕ → Lent → Lent → Answer → Type 0
 Broadcast s i = OnWords (broadcastCases s i) (broadcastRuns s i) (broadcastWords s i)

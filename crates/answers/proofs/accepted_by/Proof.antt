@@ -10,8 +10,8 @@ use Rattle.answers.proofs.Counting.{Counting, counting-start, counting-
 use Rattle.answers.proofs.accepted_by.Statement.{statement}
 use Rattle.answers.proofs.accepted_by.Tie as tie
 
-abbrev none : Run
-none = record { step = Swap; times = 0 }
+abbrev noRun : Run
+noRun = record { step = Swap; times = 0 }
 
 abbrev Inv-loop : tie.InvT-loop
 Inv-loop runs electronic₀ swaps₀ q₀ electronic swaps q =
@@ -52,10 +52,10 @@ loop-again c =
     let l = c .before .before .before .before .before .before .loop in
     let rs = c .before .before .before .before .before .before .before .args .t1 in (
       search needs,
-      counting-next electronicOf (2 ^ 64) rs (λ r. electronicIn (r .step) (r .times)) (λ r rest. refl) (l .q) none (l .electronic) _ (search needs)
+      counting-next electronicOf (2 ^ 64) rs (λ r. electronicIn (r .step) (r .times)) (λ r rest. refl) (l .q) noRun (l .electronic) _ (search needs)
           (c .before .before .wrapping-add-usize .ensures ∙ ap (λ (n : ℕ). (l .electronic + n) % 2 ^ 64) (c .before .before .before .electronic-in .ensures))
           (l .inv .1),
-      counting-next swapsOf (2 ^ 64) rs (λ r. swapsIn (r .step) (r .times)) (λ r rest. refl) (l .q) none (l .swaps) _ (search needs)
+      counting-next swapsOf (2 ^ 64) rs (λ r. swapsIn (r .step) (r .times)) (λ r rest. refl) (l .q) noRun (l .swaps) _ (search needs)
           (c .wrapping-add-usize2 .ensures ∙ ap (λ (n : ℕ). (l .swaps + n) % 2 ^ 64) (c .before .swaps-in .ensures))
           (l .inv .2),
     )

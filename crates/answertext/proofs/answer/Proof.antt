@@ -16,8 +16,8 @@ put-requires c κs = search needs
 put-moves-requires : tie.Need-put-moves-requires
 put-moves-requires c κs = search needs
 
-sum-up-requires : tie.Need-sum-up-requires
-sum-up-requires c κs = search needs
+totals-of-requires : tie.Need-totals-of-requires
+totals-of-requires c κs = search needs
 
 put-all-requires : tie.Need-put-all-requires
 put-all-requires c κs = search needs
@@ -39,7 +39,7 @@ answer-spec =
     slice-aggregate-put
     put-requires
     put-moves-requires
-    sum-up-requires
+    totals-of-requires
     put-all-requires
     put-records-requires
     same-length

@@ -40,11 +40,11 @@ bytes-before-requires c κs = search needs
 returns : tie.Need-returns Inv-loop μ-loop
 returns c = search cells-unended
 
-slice-aggregate-read-entry : tie.Need-slice-aggregate-read-entry Inv-loop μ-loop
-slice-aggregate-read-entry c = search part-length
+slice-aggregate-read-mark : tie.Need-slice-aggregate-read-mark Inv-loop μ-loop
+slice-aggregate-read-mark c = search part-length
 
-read-entry-requires : tie.Need-read-entry-requires Inv-loop μ-loop
-read-entry-requires c κs = search needs
+read-mark-requires : tie.Need-read-mark-requires Inv-loop μ-loop
+read-mark-requires c κs = search needs
 
 enum-known-index : tie.Need-enum-known-index Inv-loop μ-loop
 enum-known-index c = search needs
@@ -86,7 +86,7 @@ loop-again : tie.Need-loop-again Inv-loop μ-loop
 loop-again c =
     let r = c .before .before .before in
     let l = r .before .before .before .before .before .before in
-    cells-next (l .loop .inv) (search needs) _ (search needs) (search needs) (search needs) (r .read-entry .result) (search needs) _ _ (search needs)
+    cells-next (l .loop .inv) (search needs) _ (search needs) (search needs) (search needs) (r .read-mark .result) (search needs) _ _ (search needs)
 
 returns-3 : tie.Need-returns-3 Inv-loop μ-loop
 returns-3 c = search cells-end
@@ -106,8 +106,8 @@ read-cells-spec =
     part-rest-end
     bytes-before-requires
     returns
-    slice-aggregate-read-entry
-    read-entry-requires
+    slice-aggregate-read-mark
+    read-mark-requires
     enum-known-index
     enum-told
     returns-2

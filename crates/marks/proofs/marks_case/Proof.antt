@@ -5,14 +5,14 @@ use Rattle.marks.proofs.Bounded.{all-good}
 use Rattle.marks.proofs.marks_case.Statement.{statement}
 use Rattle.marks.proofs.marks_case.Tie as tie
 
-greatest-requires : tie.Need-greatest-requires
-greatest-requires c κs = search needs
+greatest-mark-requires : tie.Need-greatest-mark-requires
+greatest-mark-requires c κs = search needs
 
 case-of-requires : tie.Need-case-of-requires
 case-of-requires c κs = search needs
 
 returns : tie.Need-returns
-returns c = c .case-of .ensures ∙ all-good (search needs) (c .before .before .greatest .ensures)
+returns c = c .case-of .ensures ∙ all-good (search needs) (c .before .before .greatest-mark .ensures)
 
 search-requires : tie.Need-search-requires
 search-requires c κs = search needs
@@ -21,4 +21,4 @@ returns-2 : tie.Need-returns-2
 returns-2 c = search needs
 
 pub marks-case-spec : {M : Type 1} → statement M
-marks-case-spec = tie.close (tie.spec greatest-requires case-of-requires returns search-requires returns-2)
+marks-case-spec = tie.close (tie.spec greatest-mark-requires case-of-requires returns search-requires returns-2)

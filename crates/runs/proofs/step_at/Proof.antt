@@ -11,14 +11,14 @@ use Rattle.runs.proofs.Steps.{step-here, step-next, step-none}
 use Rattle.runs.proofs.step_at.Statement.{statement}
 use Rattle.runs.proofs.step_at.Tie as tie
 
-abbrev none : Run
-none = record { step = Swap; times = 0 }
+abbrev noRun : Run
+noRun = record { step = Swap; times = 0 }
 
 abbrev Inv-loop : tie.InvT-loop
-Inv-loop k runs left₀ q₀ left q = (q ≤ 9) × (stepIn (moves runs) k ≡ stepIn (moves (drop q runs)) left)
+Inv-loop k runs remaining₀ q₀ remaining q = (q ≤ 9) × (stepIn (moves runs) k ≡ stepIn (moves (drop q runs)) remaining)
 
 abbrev μ-loop : tie.MeasureT-loop
-μ-loop k runs left₀ q₀ left q = 9 - q
+μ-loop k runs remaining₀ q₀ remaining q = 9 - q
 
 loop-holds : tie.Need-loop-holds Inv-loop μ-loop
 loop-holds c = (search needs, refl)
@@ -33,7 +33,7 @@ returns : tie.Need-returns Inv-loop μ-loop
 returns c =
     let l = c .before .before .before .before in
     let s = l .before in
-    sym (l .loop .inv .1 ∙ step-here (s .args .t1) (l .loop .q) (l .loop .left) none (search needs) (search needs))
+    sym (l .loop .inv .1 ∙ step-here (s .args .t1) (l .loop .q) (l .loop .remaining) noRun (search needs) (search needs))
 
 add-q : tie.Need-add-q Inv-loop μ-loop
 add-q c = search needs
@@ -45,10 +45,10 @@ loop-again : tie.Need-loop-again Inv-loop μ-loop
 loop-again c =
     let l = c .before .before .before .before .before in
     let s = l .before in
-    (search needs, l .loop .inv .1 ∙ step-next (s .args .t1) (l .loop .q) (l .loop .left) none (search needs) (search needs) ∙ rw add-one)
+    (search needs, l .loop .inv .1 ∙ step-next (s .args .t1) (l .loop .q) (l .loop .remaining) noRun (search needs) (search needs) ∙ rw add-one)
 
 returns-2 : tie.Need-returns-2 Inv-loop μ-loop
-returns-2 c = sym (c .before .loop .inv .1 ∙ step-none (c .before .before .args .t1) (c .before .loop .q) (c .before .loop .left) (search needs))
+returns-2 c = sym (c .before .loop .inv .1 ∙ step-none (c .before .before .args .t1) (c .before .loop .q) (c .before .loop .remaining) (search needs))
 
 pub step-at-spec : {M : Type 1} → statement M
 step-at-spec =

@@ -1,5 +1,5 @@
 -- `shiftlists::distance_of` meets its contract: the machine reads a signed number back as it is.
-use Rattle.shiftlists.proofs.Signed.{wider, minus-fits, back-casts, back-is, forth-casts, forth-is}
+use Rattle.shiftlists.proofs.Signed.{wider, negated-fits, back-casts, back-is, forth-casts, forth-is}
 use Rattle.shiftlists.proofs.distance_of.Statement.{statement}
 use Rattle.shiftlists.proofs.distance_of.Tie as tie
 
@@ -7,7 +7,7 @@ cast-t3 : tie.Need-cast-t3
 cast-t3 c = wider (c .before .args .k) (c .before .fits .k)
 
 sub-t4 : tie.Need-sub-t4
-sub-t4 c = minus-fits (c .before .args .k) (c .before .fits .k) (c .if1 .taken)
+sub-t4 c = negated-fits (c .before .args .k) (c .before .fits .k) (c .if1 .taken)
 
 cast-t5 : tie.Need-cast-t5
 cast-t5 c = back-casts (c .before .args .k) (c .before .fits .k) (c .if1 .taken)

@@ -20,13 +20,13 @@ use borrow.Author.Needs.{needs}
 use Rattle.shiftlists.proofs.shift_runs.Statement.{statement}
 use Rattle.shiftlists.proofs.shift_runs.Tie as tie
 
--- the list of a distance that is refused, and of one that is not
+-- the list of a distance that is not within the side, and of one that is
 module _ (s : ℕ) (axis : Axis) (edge : Edge) (k : ℤ) {d : Distance} {rs : List Run} (e : d ≡ distanceOf k) where
-  refused : within s d ≡ false → rs ≡ noRuns → rs ≡ shiftRuns s axis edge k
-  refused t r = r ∙ sym (rw t) ∙ ap (shiftBy s axis edge) e
+  runs-beyond : within s d ≡ false → rs ≡ noRuns → rs ≡ shiftRuns s axis edge k
+  runs-beyond t r = r ∙ sym (rw t) ∙ ap (shiftBy s axis edge) e
 
-  accepted : {f b : ℕ} → within s d ≡ true → f ≡ forthMoves edge s d → b ≡ backMoves edge s d → rs ≡ shiftList axis f b → rs ≡ shiftRuns s axis edge k
-  accepted t f b r = r ∙ ap₂ (shiftList axis) f b ∙ sym (rw t) ∙ ap (shiftBy s axis edge) e
+  runs-within : {f b : ℕ} → within s d ≡ true → f ≡ forthMoves edge s d → b ≡ backMoves edge s d → rs ≡ shiftList axis f b → rs ≡ shiftRuns s axis edge k
+  runs-within t f b r = r ∙ ap₂ (shiftList axis) f b ∙ sym (rw t) ∙ ap (shiftBy s axis edge) e
 
 -- what the test says of the distance
 inside : (c : tie.Else1) → let s = c .before .before .before .args .side in let d = c .before .before .distance-of .result in (d .back ≤ s) × (d .forth ≤ s)
@@ -52,7 +52,7 @@ returns c =
     let d = c .before .before .before in
     let s = d .before in
     let a = s .args in
-    refused (a .side) (a .axis) (a .edge) (a .k) (d .distance-of .ensures ∙ ap distanceOf (toZ-ofZ w32 (a .k) (s .fits .k)))
+    runs-beyond (a .side) (a .axis) (a .edge) (a .k) (d .distance-of .ensures ∙ ap distanceOf (toZ-ofZ w32 (a .k) (s .fits .k)))
     (sym (c .before .before .is-within .ensures) ∙ not-true _ (c .before .if1 .taken)) (c .no-runs .ensures)
 
 forth-moves-requires : tie.Need-forth-moves-requires
@@ -71,7 +71,7 @@ returns-2 c =
     let d = i₂ .before in
     let s = d .before in
     let a = s .args in
-    accepted (a .side) (a .axis) (a .edge) (a .k) (d .distance-of .ensures ∙ ap distanceOf (toZ-ofZ w32 (a .k) (s .fits .k)))
+    runs-within (a .side) (a .axis) (a .edge) (a .k) (d .distance-of .ensures ∙ ap distanceOf (toZ-ofZ w32 (a .k) (s .fits .k)))
     (sym (i₂ .is-within .ensures) ∙ not-false _ (i .if1 .left)) (c .before .before .forth-moves .ensures) (c .before .back-moves .ensures)
     (c .shift-list .ensures)
 

@@ -5,8 +5,8 @@ use borrow.Author.Needs.{needs}
 use Rattle.cases.proofs.calls.group_run.Statement.{statement}
 use Rattle.cases.proofs.calls.group_run.Tie as tie
 
-within-requires : tie.Need-within-requires
-within-requires c κs = search needs
+lane-within-requires : tie.Need-lane-within-requires
+lane-within-requires c κs = search needs
 
 slice-aggregate-text : tie.Need-slice-aggregate-text
 slice-aggregate-text c = search needs
@@ -54,7 +54,7 @@ pub group-run-spec : {M : Type 1} → statement M
 group-run-spec =
     tie.close
     (tie.spec
-    within-requires
+    lane-within-requires
     slice-aggregate-text
     text-requires
     value-requires

@@ -5,11 +5,11 @@ use borrow.Author.Needs.{needs}
 use Rattle.cases.proofs.calls.rank_run.Statement.{statement}
 use Rattle.cases.proofs.calls.rank_run.Tie as tie
 
-cells-requires : tie.Need-cells-requires
-cells-requires c κs = search needs
+lane-cells-requires : tie.Need-lane-cells-requires
+lane-cells-requires c κs = search needs
 
-within-requires : tie.Need-within-requires
-within-requires c κs = search needs
+lane-within-requires : tie.Need-lane-within-requires
+lane-within-requires c κs = search needs
 
 slice-aggregate-text : tie.Need-slice-aggregate-text
 slice-aggregate-text c = search needs
@@ -57,8 +57,8 @@ pub rank-run-spec : {M : Type 1} → statement M
 rank-run-spec =
     tie.close
     (tie.spec
-    cells-requires
-    within-requires
+    lane-cells-requires
+    lane-within-requires
     slice-aggregate-text
     text-requires
     lent-requires

@@ -5,11 +5,11 @@ use borrow.Author.Needs.{needs}
 use Rattle.cases.proofs.calls.records_run.Statement.{statement}
 use Rattle.cases.proofs.calls.records_run.Tie as tie
 
-cells-requires : tie.Need-cells-requires
-cells-requires c κs = search needs
+lane-cells-requires : tie.Need-lane-cells-requires
+lane-cells-requires c κs = search needs
 
-within-requires : tie.Need-within-requires
-within-requires c κs = search needs
+lane-within-requires : tie.Need-lane-within-requires
+lane-within-requires c κs = search needs
 
 run-name-requires : tie.Need-run-name-requires
 run-name-requires c κs = search needs
@@ -36,34 +36,34 @@ slice-aggregate-on-records-3 : tie.Need-slice-aggregate-on-records-3
 slice-aggregate-on-records-3 c = sym (length-take-le _ _ (search needs))
 
 array-borrow-prefix-spare-words : tie.Need-array-borrow-prefix-spare-words
-array-borrow-prefix-spare-words c = c .before .before .before .before .before .before .cells .ensures .1
+array-borrow-prefix-spare-words c = c .before .before .before .before .before .before .lane-cells .ensures .1
 
 slice-aggregate-on-records-4 : tie.Need-slice-aggregate-on-records-4
-slice-aggregate-on-records-4 c = sym (length-take-le _ _ (c .before .before .before .before .before .before .before .cells .ensures .1))
+slice-aggregate-on-records-4 c = sym (length-take-le _ _ (c .before .before .before .before .before .before .before .lane-cells .ensures .1))
 
 array-borrow-prefix-spare-marks : tie.Need-array-borrow-prefix-spare-marks
-array-borrow-prefix-spare-marks c = c .before .before .before .before .before .before .before .cells .ensures .1
+array-borrow-prefix-spare-marks c = c .before .before .before .before .before .before .before .lane-cells .ensures .1
 
 slice-aggregate-on-records-5 : tie.Need-slice-aggregate-on-records-5
-slice-aggregate-on-records-5 c = sym (length-take-le _ _ (c .before .before .before .before .before .before .before .before .cells .ensures .1))
+slice-aggregate-on-records-5 c = sym (length-take-le _ _ (c .before .before .before .before .before .before .before .before .lane-cells .ensures .1))
 
 array-borrow-prefix-spare-aims : tie.Need-array-borrow-prefix-spare-aims
-array-borrow-prefix-spare-aims c = c .before .before .before .before .before .before .before .before .cells .ensures .1
+array-borrow-prefix-spare-aims c = c .before .before .before .before .before .before .before .before .lane-cells .ensures .1
 
 slice-aggregate-on-records-6 : tie.Need-slice-aggregate-on-records-6
-slice-aggregate-on-records-6 c = sym (length-take-le _ _ (c .before .before .before .before .before .before .before .before .before .cells .ensures .1))
+slice-aggregate-on-records-6 c = sym (length-take-le _ _ (c .before .before .before .before .before .before .before .before .before .lane-cells .ensures .1))
 
 array-borrow-prefix-codes : tie.Need-array-borrow-prefix-codes
-array-borrow-prefix-codes c = c .before .before .before .before .before .before .before .before .within .ensures
+array-borrow-prefix-codes c = c .before .before .before .before .before .before .before .before .lane-within .ensures
 
 slice-aggregate-on-records-7 : tie.Need-slice-aggregate-on-records-7
-slice-aggregate-on-records-7 c = sym (length-take-le _ _ (c .before .before .before .before .before .before .before .before .before .within .ensures))
+slice-aggregate-on-records-7 c = sym (length-take-le _ _ (c .before .before .before .before .before .before .before .before .before .lane-within .ensures))
 
 array-borrow-prefix-moved : tie.Need-array-borrow-prefix-moved
-array-borrow-prefix-moved c = c .before .before .before .before .before .before .before .before .before .within .ensures
+array-borrow-prefix-moved c = c .before .before .before .before .before .before .before .before .before .lane-within .ensures
 
 slice-aggregate-on-records-8 : tie.Need-slice-aggregate-on-records-8
-slice-aggregate-on-records-8 c = sym (length-take-le _ _ (c .before .before .before .before .before .before .before .before .before .before .within .ensures))
+slice-aggregate-on-records-8 c = sym (length-take-le _ _ (c .before .before .before .before .before .before .before .before .before .before .lane-within .ensures))
 
 on-records-requires : tie.Need-on-records-requires
 on-records-requires c κs = search needs
@@ -93,8 +93,8 @@ pub records-run-spec : {M : Type 1} → statement M
 records-run-spec =
     tie.close
     (tie.spec
-    cells-requires
-    within-requires
+    lane-cells-requires
+    lane-within-requires
     run-name-requires
     lent-requires
     array-borrow-prefix-words

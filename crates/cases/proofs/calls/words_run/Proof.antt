@@ -5,11 +5,11 @@ use borrow.Author.Needs.{needs}
 use Rattle.cases.proofs.calls.words_run.Statement.{statement}
 use Rattle.cases.proofs.calls.words_run.Tie as tie
 
-within-requires : tie.Need-within-requires
-within-requires c κs = search needs
+lane-within-requires : tie.Need-lane-within-requires
+lane-within-requires c κs = search needs
 
-within-requires-2 : tie.Need-within-requires-2
-within-requires-2 c κs = search needs
+lane-within-requires-2 : tie.Need-lane-within-requires-2
+lane-within-requires-2 c κs = search needs
 
 operation-name-requires : tie.Need-operation-name-requires
 operation-name-requires c κs = search needs
@@ -48,8 +48,8 @@ pub words-run-spec : {M : Type 1} → statement M
 words-run-spec =
     tie.close
     (tie.spec
-    within-requires
-    within-requires-2
+    lane-within-requires
+    lane-within-requires-2
     operation-name-requires
     lent-requires
     array-borrow-prefix-words

@@ -10,8 +10,8 @@ Inv-loop side marks n front₀ homes₀ rank₀ i₀ front homes rank i = (i ≤
 abbrev μ-loop : tie.MeasureT-loop
 μ-loop side marks n front₀ homes₀ rank₀ i₀ front homes rank i = 4096 - i
 
-cells-requires : tie.Need-cells-requires Inv-loop μ-loop
-cells-requires c κs = search needs
+lane-cells-requires : tie.Need-lane-cells-requires Inv-loop μ-loop
+lane-cells-requires c κs = search needs
 
 loop-holds : tie.Need-loop-holds Inv-loop μ-loop
 loop-holds c = search needs
@@ -58,7 +58,7 @@ gather-spec =
     (tie.spec
     Inv-loop
     μ-loop
-    cells-requires
+    lane-cells-requires
     loop-holds
     array-read-front
     array-write-front

@@ -10,8 +10,8 @@ Inv-loop side axis edge n last i₀ i = (i ≤ 17) × (last ≤ 16)
 abbrev μ-loop : tie.MeasureT-loop
 μ-loop side axis edge n last i₀ i = 17 - i
 
-cells-requires : tie.Need-cells-requires Inv-loop μ-loop
-cells-requires c κs = search needs
+lane-cells-requires : tie.Need-lane-cells-requires Inv-loop μ-loop
+lane-cells-requires c κs = search needs
 
 add-last : tie.Need-add-last Inv-loop μ-loop
 add-last c = search needs
@@ -28,8 +28,8 @@ mul-t10 c = search needs
 array-copy-out-t13 : tie.Need-array-copy-out-t13 Inv-loop μ-loop
 array-copy-out-t13 c = search needs
 
-run-requires : tie.Need-run-requires Inv-loop μ-loop
-run-requires c κs = search needs
+run-counting-up-requires : tie.Need-run-counting-up-requires Inv-loop μ-loop
+run-counting-up-requires c κs = search needs
 
 add-i : tie.Need-add-i Inv-loop μ-loop
 add-i c = search needs
@@ -49,13 +49,13 @@ shifts-by-spec =
     (tie.spec
     Inv-loop
     μ-loop
-    cells-requires
+    lane-cells-requires
     add-last
     sub-i
     loop-holds
     mul-t10
     array-copy-out-t13
-    run-requires
+    run-counting-up-requires
     add-i
     loop-less
     loop-again

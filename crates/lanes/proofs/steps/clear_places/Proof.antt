@@ -1,14 +1,14 @@
--- `lanes::steps::clear_places` meets its contract: place by place, by `Laid`.
+-- `lanes::steps::clear_places` meets its contract: place by place, by `PlacesLaid`.
 use Prim.Native.Nat.{_≤_, _-_}
 use native.Mathlib.Omega.{arith}
 use mathlib.Core.Path.{_≡_, refl}
-use Rattle.lanes.specs.Inside.{Laid}
+use Rattle.lanes.specs.Inside.{PlacesLaid}
 use Rattle.lanes.proofs.Laying.{laid-start, laid-next}
 use Rattle.lanes.proofs.steps.clear_places.Statement.{statement}
 use Rattle.lanes.proofs.steps.clear_places.Tie as tie
 
 abbrev Inv-loop : tie.InvT-loop
-Inv-loop part₀ to apart count k₀ part k = (k ≤ count) × Laid to apart k (λ _. 0) part₀ part
+Inv-loop part₀ to apart count k₀ part k = (k ≤ count) × PlacesLaid to apart k (λ _. 0) part₀ part
 
 abbrev μ-loop : tie.MeasureT-loop
 μ-loop part₀ to apart count k₀ part k = count - k

@@ -2,17 +2,17 @@
 use native.Mathlib.Omega.{arith}
 use mathlib.Core.Path.{sym, _∙_}
 use Rattle.lanes.specs.declared.Joining.the-variants.{Fill}
-use Rattle.lanes.proofs.Spots.{behind-is, places, places-ready, along-few}
-use Rattle.lanes.proofs.Sweeping.{turned-received, turned-cleared}
+use Rattle.lanes.proofs.Spots.{behind-is, places, places-ready, place-gap-few}
+use Rattle.lanes.proofs.Sweeping.{after-turn-received, after-turn-cleared}
 use borrow.Author.Needs.{needs}
 use Rattle.lanes.proofs.steps.fill_line.Statement.{statement}
 use Rattle.lanes.proofs.steps.fill_line.Tie as tie
 
-along-requires : tie.Need-along-requires
-along-requires c κs = search needs
+place-gap-requires : tie.Need-place-gap-requires
+place-gap-requires c κs = search needs
 
-across-requires : tie.Need-across-requires
-across-requires c κs = search needs
+line-gap-requires : tie.Need-line-gap-requires
+line-gap-requires c κs = search needs
 
 behind-requires : tie.Need-behind-requires
 behind-requires c κs = search needs
@@ -24,7 +24,7 @@ mul-join-places : tie.Need-mul-join-places
 mul-join-places c =
     let a = c .before .before .before .before .before .before in
     let s = a .before .before in
-    omega (arith, along-few (s .pre .0) (s .args .way) (s .args .p) _ (s .pre .1) (a .along .ensures))
+    omega (arith, place-gap-few (s .pre .0) (s .args .way) (s .args .p) _ (s .pre .1) (a .place-gap .ensures))
 
 mul-join-places-2 : tie.Need-mul-join-places-2
 mul-join-places-2 c =
@@ -33,7 +33,7 @@ mul-join-places-2 c =
     let a = b .before .before in
     let s = a .before .before in
     omega
-    (arith, along-few (s .pre .0) (s .args .way) (f .from .given .0 .0) _ (behind-is _ (s .args .way) (s .args .p) (f .from .given .0 .0) (s .pre .1) (sym (b .behind .ensures) ∙ f .from .given .1) .inside) (a .along .ensures))
+    (arith, place-gap-few (s .pre .0) (s .args .way) (f .from .given .0 .0) _ (behind-is _ (s .args .way) (s .args .p) (f .from .given .0 .0) (s .pre .1) (sym (b .behind .ensures) ∙ f .from .given .1) .inside) (a .place-gap .ensures))
 
 join-places-requires : tie.Need-join-places-requires
 join-places-requires c κs =
@@ -43,7 +43,7 @@ join-places-requires c κs =
     let a₂ = a .before in
     let s = a₂ .before .before in
     places-ready (s .pre .0) (s .args .way) (s .args .p) (f .from .given .0 .0) _ _ (s .pre .1) (sym (b .behind .ensures) ∙ f .from .given .1)
-    (a₂ .along .ensures) (a .across .ensures)
+    (a₂ .place-gap .ensures) (a .line-gap .ensures)
 
 enum-told : tie.Need-enum-told
 enum-told c = search needs
@@ -52,14 +52,14 @@ mul-clear-places : tie.Need-mul-clear-places
 mul-clear-places c =
     let a = c .before .before .before .before .before in
     let s = a .before .before in
-    omega (arith, along-few (s .pre .0) (s .args .way) (s .args .p) _ (s .pre .1) (a .along .ensures))
+    omega (arith, place-gap-few (s .pre .0) (s .args .way) (s .args .p) _ (s .pre .1) (a .place-gap .ensures))
 
 clear-places-requires : tie.Need-clear-places-requires
 clear-places-requires c κs =
     let a = c .before .before .before .before in
     let a₂ = a .before in
     let s = a₂ .before .before in
-    rw (a₂ .along .ensures, a .across .ensures) (places (s .pre .0) (s .args .way) (s .args .p) (s .pre .1))
+    rw (a₂ .place-gap .ensures, a .line-gap .ensures) (places (s .pre .0) (s .args .way) (s .args .p) (s .pre .1))
 
 same-length : tie.Need-same-length
 same-length c = search needs
@@ -71,8 +71,8 @@ returns c =
     let a = b .before in
     let a₂ = a .before in
     let s = a₂ .before .before in
-    turned-received (s .args .side) (s .args .way) Fill (s .args .p) (f .from .given .0 .0) _ _ (s .args .part .now) _ (s .pre .0) (s .pre .1)
-    (sym (b .behind .ensures) ∙ f .from .given .1) (a₂ .along .ensures) (a .across .ensures) (c .before .before .join-places .ensures)
+    after-turn-received (s .args .side) (s .args .way) Fill (s .args .p) (f .from .given .0 .0) _ _ (s .args .part .now) _ (s .pre .0) (s .pre .1)
+    (sym (b .behind .ensures) ∙ f .from .given .1) (a₂ .place-gap .ensures) (a .line-gap .ensures) (c .before .before .join-places .ensures)
 
 same-length-2 : tie.Need-same-length-2
 same-length-2 c = search needs
@@ -84,15 +84,15 @@ returns-2 c =
     let a = b .before in
     let a₂ = a .before in
     let s = a₂ .before .before in
-    turned-cleared (s .args .side) (s .args .way) (s .args .p) _ _ (s .args .part .now) _ (s .pre .0) (s .pre .1)
-    (sym (b .behind .ensures) ∙ e .enum-told .given .1) (a₂ .along .ensures) (a .across .ensures) (c .before .before .clear-places .ensures)
+    after-turn-cleared (s .args .side) (s .args .way) (s .args .p) _ _ (s .args .part .now) _ (s .pre .0) (s .pre .1)
+    (sym (b .behind .ensures) ∙ e .enum-told .given .1) (a₂ .place-gap .ensures) (a .line-gap .ensures) (c .before .before .clear-places .ensures)
 
 pub fill-line-spec : {M : Type 1} → statement M
 fill-line-spec =
     tie.close
     (tie.spec
-    along-requires
-    across-requires
+    place-gap-requires
+    line-gap-requires
     behind-requires
     enum-known-from
     mul-join-places

@@ -4,7 +4,7 @@ use Rattle.lanes.specs.declared.Joining.the-variants.{Add, Copy}
 use Rattle.sums.specs.Sums.{plus}
 use Rattle.lanes.specs.Stages.{copy}
 use Rattle.lanes.proofs.Spots.{line-in-group}
-use Rattle.lanes.proofs.Sweeping.{turned-line, front-stepped, filled-stepped}
+use Rattle.lanes.proofs.Sweeping.{after-turn-line, front-stepped, filled-stepped}
 use borrow.Author.Needs.{needs}
 use Rattle.lanes.proofs.steps.step.Statement.{statement}
 use Rattle.lanes.proofs.steps.step.Tie as tie
@@ -39,7 +39,7 @@ returns c =
     let e = c .before .before .before .before in
     let s = e .before .before .before in
     front-stepped (s .args .side) (s .args .way) (s .args .rule) (s .args .part .now) _ plus Add refl (e .enum-told .given .1)
-    (turned-line (s .args .side) (s .args .way) (s .args .rule .front) (s .args .part .now) _ plus Add (s .args .line) refl (s .pre .0) (s .pre .1) (c .before .before .join-line .ensures))
+    (after-turn-line (s .args .side) (s .args .way) (s .args .rule .front) (s .args .part .now) _ plus Add (s .args .line) refl (s .pre .0) (s .pre .1) (c .before .before .join-line .ensures))
 
 same-length-2 : tie.Need-same-length-2
 same-length-2 c = search needs
@@ -49,7 +49,7 @@ returns-2 c =
     let e = c .before .before .before .before in
     let s = e .before .before .before in
     front-stepped (s .args .side) (s .args .way) (s .args .rule) (s .args .part .now) _ copy Copy refl (e .enum-told2 .given .1)
-    (turned-line (s .args .side) (s .args .way) (s .args .rule .front) (s .args .part .now) _ copy Copy (s .args .line) refl (s .pre .0) (s .pre .1) (c .before .before .join-line2 .ensures))
+    (after-turn-line (s .args .side) (s .args .way) (s .args .rule .front) (s .args .part .now) _ copy Copy (s .args .line) refl (s .pre .0) (s .pre .1) (c .before .before .join-line2 .ensures))
 
 same-length-3 : tie.Need-same-length-3
 same-length-3 c = search needs

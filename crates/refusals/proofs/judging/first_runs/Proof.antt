@@ -1,4 +1,4 @@
--- `refusals::judging::first_runs` meets its contract: run after run, with the moves that are left carried along (Judged).
+-- `refusals::judging::first_runs` meets its contract: run after run, with the moves that remain carried along (Judged).
 use mathlib.Core.Path.{ap}
 use Prim.Native.Nat.{_-_}
 use native.Mathlib.Omega.{arith}
@@ -10,10 +10,10 @@ use Rattle.refusals.proofs.judging.first_runs.Statement.{statement}
 use Rattle.refusals.proofs.judging.first_runs.Tie as tie
 
 abbrev Inv-loop : tie.InvT-loop
-Inv-loop cut runs firsts₀ left₀ q₀ firsts left q = Cutting cut runs firsts left q
+Inv-loop cut runs firsts₀ remaining₀ q₀ firsts remaining q = Cutting cut runs firsts remaining q
 
 abbrev μ-loop : tie.MeasureT-loop
-μ-loop cut runs firsts₀ left₀ q₀ firsts left q = 9 - q
+μ-loop cut runs firsts₀ remaining₀ q₀ firsts remaining q = 9 - q
 
 no-runs-requires : tie.Need-no-runs-requires Inv-loop μ-loop
 no-runs-requires c κs = search needs
@@ -36,8 +36,8 @@ mul-firsts c = search needs
 array-set-from-firsts : tie.Need-array-set-from-firsts Inv-loop μ-loop
 array-set-from-firsts c = c .before .before .loop-test .taken
 
-sub-left : tie.Need-sub-left Inv-loop μ-loop
-sub-left c = omega (arith, c .least .ensures)
+sub-remaining : tie.Need-sub-remaining Inv-loop μ-loop
+sub-remaining c = omega (arith, c .least .ensures)
 
 add-q : tie.Need-add-q Inv-loop μ-loop
 add-q c = search needs
@@ -66,7 +66,7 @@ first-runs-spec =
     least-requires
     mul-firsts
     array-set-from-firsts
-    sub-left
+    sub-remaining
     add-q
     loop-less
     loop-again

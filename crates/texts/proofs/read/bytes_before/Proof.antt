@@ -2,7 +2,7 @@
 use Prim.Native.Nat.{_-_}
 use native.Mathlib.Omega.{arith}
 use lib.ListN.{length}
-use Rattle.texts.specs.Lines.{before}
+use Rattle.texts.specs.Lines.{bytesBefore}
 use Rattle.texts.proofs.Reading.{Sought, sought-found, sought-next, sought-end}
 use Rattle.texts.proofs.read.bytes_before.Statement.{statement}
 use Rattle.texts.proofs.read.bytes_before.Tie as tie

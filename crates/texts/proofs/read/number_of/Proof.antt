@@ -16,14 +16,14 @@ shared-slice-read-if2 c = search needs
 returns-2 : tie.Need-returns-2
 returns-2 c = number-zero _ (c .before .if2 .taken) (omega (arith, c .if3 .taken))
 
-digits-requires : tie.Need-digits-requires
-digits-requires c κs = search needs
+digits-from-requires : tie.Need-digits-from-requires
+digits-from-requires c κs = search needs
 
 returns-3 : tie.Need-returns-3
 returns-3 c =
     let i = c .before .before .before in
-    c .digits .ensures ∙ number-digits _ (i .if1 .left) (λ z. ⊎-elim (λ w. w .1 .left) (λ w. absurd (w .left z)) (c .before .if2 .came))
+    c .digits-from .ensures ∙ number-digits _ (i .if1 .left) (λ z. ⊎-elim (λ w. w .1 .left) (λ w. absurd (w .left z)) (c .before .if2 .came))
 
 pub number-of-spec : {M : Type 1} → statement M
 number-of-spec =
-    tie.close (tie.spec returns shared-slice-read-if2 returns-2 digits-requires returns-3)
+    tie.close (tie.spec returns shared-slice-read-if2 returns-2 digits-from-requires returns-3)

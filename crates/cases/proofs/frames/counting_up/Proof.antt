@@ -1,8 +1,8 @@
--- `cases::frames::counted` is safe and ends: cell after cell.
+-- `cases::frames::counting_up` is safe and ends: cell after cell.
 use Prim.Native.Nat.{_≤_, _-_}
 use borrow.Author.Needs.{needs}
-use Rattle.cases.proofs.frames.counted.Statement.{statement}
-use Rattle.cases.proofs.frames.counted.Tie as tie
+use Rattle.cases.proofs.frames.counting_up.Statement.{statement}
+use Rattle.cases.proofs.frames.counting_up.Tie as tie
 
 abbrev Inv-loop : tie.InvT-loop
 Inv-loop first words₀ word₀ i₀ words word i = i ≤ 4096
@@ -34,8 +34,8 @@ loop-again c = search needs
 returns : tie.Need-returns Inv-loop μ-loop
 returns c = search needs
 
-pub counted-spec : {M : Type 1} → statement M
-counted-spec =
+pub counting-up-spec : {M : Type 1} → statement M
+counting-up-spec =
     tie.close
     (tie.spec
     Inv-loop

@@ -1,12 +1,12 @@
--- `ranking::load` meets its contract: the words are filled from the marks.
+-- `ranking::load_marks` meets its contract: the words are filled from the marks.
 use Prim.Native.Nat.{_-_, _≤_}
 use mathlib.Core.Path.{_∙_}
 use mathlib.Core.List.{map-id}
 use lib.ListN.{length, getD}
 use borrow.Author.Needs.{needs}
 use Rattle.laws.proofs.Filling.{Filled, filled-start, filled-next, filled-map}
-use Rattle.ranking.proofs.load.Statement.{statement}
-use Rattle.ranking.proofs.load.Tie as tie
+use Rattle.ranking.proofs.load_marks.Statement.{statement}
+use Rattle.ranking.proofs.load_marks.Tie as tie
 
 abbrev Inv-loop : tie.InvT-loop
 Inv-loop marks sums₀ i₀ sums i = (i ≤ length marks) × Filled (λ k. getD marks k 0) 0 (length marks) sums i
@@ -44,8 +44,8 @@ same-length c = search needs
 returns : tie.Need-returns Inv-loop μ-loop
 returns c = filled-map (λ x. x) 0 (c .before .before .before .before .args .marks .now) (search needs) (c .before .loop .inv .1) ∙ map-id _
 
-pub load-spec : {M : Type 1} → statement M
-load-spec =
+pub load-marks-spec : {M : Type 1} → statement M
+load-marks-spec =
     tie.close
     (tie.spec
     Inv-loop

@@ -1,10 +1,10 @@
--- `answertext::sum_up` meets its contract: the lines of the log are added one after the other.
+-- `answertext::totals_of` meets its contract: the lines of the log are added one after the other.
 use Rattle.answertext.proofs.Adding.{Totalling, totals-begin, totals-more, totals-end}
 use Rattle.answertext.specs.Log.{lineOf}
 use Prim.Native.Nat.{_-_}
 use borrow.Author.Needs.{needs}
-use Rattle.answertext.proofs.sum_up.Statement.{statement}
-use Rattle.answertext.proofs.sum_up.Tie as tie
+use Rattle.answertext.proofs.totals_of.Statement.{statement}
+use Rattle.answertext.proofs.totals_of.Tie as tie
 
 abbrev Inv-loop : tie.InvT-loop
 Inv-loop codes moved n so-far₀ i₀ so-far i = Totalling (lineOf codes moved) n so-far i
@@ -42,8 +42,8 @@ loop-again c = search totals-more
 returns : tie.Need-returns Inv-loop μ-loop
 returns c = search totals-end
 
-pub sum-up-spec : {M : Type 1} → statement M
-sum-up-spec =
+pub totals-of-spec : {M : Type 1} → statement M
+totals-of-spec =
     tie.close
     (tie.spec
     Inv-loop

@@ -1,7 +1,7 @@
--- `lanes::steps::joined` meets its contract: by cases on the joining.
+-- `lanes::steps::join` meets its contract: by cases on the joining.
 use borrow.Author.Needs.{needs}
-use Rattle.lanes.proofs.steps.joined.Statement.{statement}
-use Rattle.lanes.proofs.steps.joined.Tie as tie
+use Rattle.lanes.proofs.steps.join.Statement.{statement}
+use Rattle.lanes.proofs.steps.join.Tie as tie
 
 enum-told : tie.Need-enum-told
 enum-told c = search needs
@@ -24,7 +24,7 @@ returns-2 c = search needs
 returns-3 : tie.Need-returns-3
 returns-3 c = search needs
 
-pub joined-spec : {M : Type 1} → statement M
-joined-spec =
+pub join-spec : {M : Type 1} → statement M
+join-spec =
     tie.close
     (tie.spec enum-told plus-requires enum-told-2 enum-told-3 returns returns-2 returns-3)

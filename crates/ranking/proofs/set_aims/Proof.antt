@@ -1,4 +1,4 @@
--- `ranking::unload` meets its contract: the aims are filled with one less than the sums.
+-- `ranking::set_aims` meets its contract: the aims are filled with one less than the sums.
 use Prim.Native.Nat.{_-_, _≤_}
 use mathlib.Core.Path.{_∙_}
 use lib.ListN.{length}
@@ -6,8 +6,8 @@ use borrow.Author.Needs.{needs}
 use Rattle.laws.proofs.Filling.{Filled, filled-start, filled-next, filled-end}
 use Rattle.ranking.specs.Ranks.{aimIn}
 use Rattle.ranking.proofs.Aims.{sum-few, aim-is}
-use Rattle.ranking.proofs.unload.Statement.{statement}
-use Rattle.ranking.proofs.unload.Tie as tie
+use Rattle.ranking.proofs.set_aims.Statement.{statement}
+use Rattle.ranking.proofs.set_aims.Tie as tie
 
 abbrev Inv-loop : tie.InvT-loop
 Inv-loop marks sums aims₀ i₀ aims i = (i ≤ length marks) × Filled (aimIn marks) 0 (length marks) aims i
@@ -54,8 +54,8 @@ same-length c = search needs
 returns : tie.Need-returns Inv-loop μ-loop
 returns c = filled-end _ _ (search needs) (c .before .loop .inv .1)
 
-pub unload-spec : {M : Type 1} → statement M
-unload-spec =
+pub set-aims-spec : {M : Type 1} → statement M
+set-aims-spec =
     tie.close
     (tie.spec
     Inv-loop

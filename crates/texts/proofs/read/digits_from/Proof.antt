@@ -1,12 +1,12 @@
--- `texts::read::digits` meets its contract: digit after digit, as long as the number is small enough.
+-- `texts::read::digits_from` meets its contract: digit after digit, as long as the number is small enough.
 use borrow.Author.Needs.{needs}
 use native.Mathlib.Omega.{arith}
 use Prim.Native.Nat.{_-_}
 use mathlib.Core.Path.{refl}
 use lib.ListN.{length}
 use Rattle.texts.proofs.Reading.{Digits, digits-low, digits-high, digits-over, digits-next, digits-end}
-use Rattle.texts.proofs.read.digits.Statement.{statement}
-use Rattle.texts.proofs.read.digits.Tie as tie
+use Rattle.texts.proofs.read.digits_from.Statement.{statement}
+use Rattle.texts.proofs.read.digits_from.Tie as tie
 
 abbrev Inv-loop : tie.InvT-loop
 Inv-loop field n₀ i₀ n i = Digits field n i
@@ -53,8 +53,8 @@ cast-t11 c = search needs
 returns-4 : tie.Need-returns-4 Inv-loop μ-loop
 returns-4 c = search digits-end
 
-pub digits-spec : {M : Type 1} → statement M
-digits-spec =
+pub digits-from-spec : {M : Type 1} → statement M
+digits-from-spec =
     tie.close
     (tie.spec
     Inv-loop

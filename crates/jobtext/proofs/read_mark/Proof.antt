@@ -1,15 +1,15 @@
--- `jobtext::read_entry` meets its contract: two fields, and an index in its order and on the board.
-use Rattle.jobtext.proofs.Entries.{entry-no-tab, entry-no-index, entry-no-word, entry-low, entry-high, entry-cell}
+-- `jobtext::read_mark` meets its contract: two fields, and an index in its order and on the board.
+use Rattle.jobtext.proofs.Entries.{mark-no-tab, mark-no-index, mark-no-word, mark-low, mark-high, mark-cell}
 use Rattle.texts.proofs.Reading.{part-length}
 use borrow.Author.Needs.{needs}
-use Rattle.jobtext.proofs.read_entry.Statement.{statement}
-use Rattle.jobtext.proofs.read_entry.Tie as tie
+use Rattle.jobtext.proofs.read_mark.Statement.{statement}
+use Rattle.jobtext.proofs.read_mark.Tie as tie
 
 bytes-before-requires : tie.Need-bytes-before-requires
 bytes-before-requires c κs = search needs
 
 returns : tie.Need-returns
-returns c = search entry-no-tab
+returns c = search mark-no-tab
 
 slice-aggregate-number-of : tie.Need-slice-aggregate-number-of
 slice-aggregate-number-of c = search part-length
@@ -24,7 +24,7 @@ enum-told : tie.Need-enum-told
 enum-told c = search needs
 
 returns-2 : tie.Need-returns-2
-returns-2 c = search entry-no-index
+returns-2 c = search mark-no-index
 
 add-number-of : tie.Need-add-number-of
 add-number-of c = search needs
@@ -48,22 +48,22 @@ enum-told-2 : tie.Need-enum-told-2
 enum-told-2 c = search needs
 
 returns-3 : tie.Need-returns-3
-returns-3 c = search entry-no-word
+returns-3 c = search mark-no-word
 
 cast-index : tie.Need-cast-index
 cast-index c = search needs
 
 returns-4 : tie.Need-returns-4
-returns-4 c = search entry-low
+returns-4 c = search mark-low
 
 returns-5 : tie.Need-returns-5
-returns-5 c = search entry-high
+returns-5 c = search mark-high
 
 returns-6 : tie.Need-returns-6
-returns-6 c = search entry-cell
+returns-6 c = search mark-cell
 
-pub read-entry-spec : {M : Type 1} → statement M
-read-entry-spec =
+pub read-mark-spec : {M : Type 1} → statement M
+read-mark-spec =
     tie.close
     (tie.spec
     bytes-before-requires

@@ -1,10 +1,10 @@
--- `marks::greatest` meets its contract: no mark passed is above the greatest of them.
+-- `marks::greatest_mark` meets its contract: no mark passed is above the greatest of them.
 use Prim.Native.Nat.{_-_}
 use borrow.Author.Needs.{needs}
 use lib.ListN.{length}
 use Rattle.marks.proofs.Bounded.{Bounded, bounded-start, bounded-next, bounded-end}
-use Rattle.marks.proofs.greatest.Statement.{statement}
-use Rattle.marks.proofs.greatest.Tie as tie
+use Rattle.marks.proofs.greatest_mark.Statement.{statement}
+use Rattle.marks.proofs.greatest_mark.Tie as tie
 
 abbrev Inv-loop : tie.InvT-loop
 Inv-loop marks most₀ i₀ most i = Bounded marks most i
@@ -33,8 +33,8 @@ loop-again c = bounded-next (search needs) (c .greater .ensures) (c .before .bef
 returns : tie.Need-returns Inv-loop μ-loop
 returns c = bounded-end (search needs) (c .before .loop .inv)
 
-pub greatest-spec : {M : Type 1} → statement M
-greatest-spec =
+pub greatest-mark-spec : {M : Type 1} → statement M
+greatest-mark-spec =
     tie.close
     (tie.spec
     Inv-loop
