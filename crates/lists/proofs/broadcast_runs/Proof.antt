@@ -1,17 +1,17 @@
 -- `lists::broadcast_runs` meets its contract: two spreads, from the place and from the group, with the swap between.
-use mathlib.Core.Path.{_≡_, sym, _∙_}
+use mathlib.Core.Path.{_≡_}
 use mathlib.Core.Bool.{true}
 use native.Mathlib.Omega.{arith}
-use borrow.Author.Tests.{not-true, not-false}
 use Rattle.array.specs.Cells.{isCell}
 use Rattle.array.proofs.Board.{OnBoard, cell-known, place-in, group-in}
 use borrow.Author.Needs.{needs}
+use Rattle.laws.proofs.Bools.{failed, passed}
 use Rattle.lists.proofs.broadcast_runs.Statement.{statement}
 use Rattle.lists.proofs.broadcast_runs.Tie as tie
 
 -- what is known past the test
 board : (c : tie.Else1) → isCell (c .before .before .args .side) (c .before .before .args .cell) ≡ true
-board c = sym (c .before .is-cell .ensures) ∙ not-false _ (c .if1 .left)
+board c = passed (c .before .is-cell .ensures) (c .if1 .left)
 
 known : (c : tie.Else1) → OnBoard (c .before .before .args .side) (c .before .before .args .cell)
 known c = cell-known (c .before .before .args .side) (c .before .before .args .cell) (board c)
@@ -23,7 +23,7 @@ no-runs-requires : tie.Need-no-runs-requires
 no-runs-requires c κs = search needs
 
 returns : tie.Need-returns
-returns c = rw (sym (c .before .before .is-cell .ensures) ∙ not-true _ (c .before .if1 .taken)) (c .no-runs .ensures)
+returns c = rw (failed (c .before .before .is-cell .ensures) (c .before .if1 .taken)) (c .no-runs .ensures)
 
 mul-groups : tie.Need-mul-groups
 mul-groups c = omega (arith, known c .side)
@@ -72,7 +72,7 @@ returns-2 c =
     let s₂ = s .before in
     let i = s₂ .before in
     let i₂ = i .before in
-    rw (sym (i₂ .is-cell .ensures) ∙ not-false _ (i .if1 .left), s₂ .spread-runs .ensures, s .spread-runs2 .ensures)
+    rw (passed (i₂ .is-cell .ensures) (i .if1 .left), s₂ .spread-runs .ensures, s .spread-runs2 .ensures)
 
 pub broadcast-runs-spec : {M : Type 1} → statement M
 broadcast-runs-spec =

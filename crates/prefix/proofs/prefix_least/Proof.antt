@@ -1,8 +1,8 @@
 -- `prefix::prefix_least` meets its contract: on a board of side 2 at most the lane holds the prefix sums; else it is left.
-use mathlib.Core.Path.{sym, _∙_}
-use borrow.Author.Tests.{not-true, not-false, lt-ltb, le-ltb}
+use borrow.Author.Tests.{lt-ltb, le-ltb}
 use borrow.Author.Needs.{needs}
 use lib.ListN.{length}
+use Rattle.laws.proofs.Bools.{failed, passed}
 use Rattle.lanes.proofs.Held.{board-known}
 use Rattle.prefix.proofs.Composing.{prefix-done}
 use Rattle.prefix.proofs.prefix_least.Statement.{statement}
@@ -15,12 +15,12 @@ is-board-requires : tie.Need-is-board-requires
 is-board-requires c κs = search needs
 
 returns-2 : tie.Need-returns-2
-returns-2 c = rw (le-ltb _ _ (c .before .before .if1 .left)) (rw (sym (c .before .is-board .ensures) ∙ not-true _ (c .if2 .taken)))
+returns-2 c = rw (le-ltb _ _ (c .before .before .if1 .left)) (rw (failed (c .before .is-board .ensures) (c .if2 .taken)))
 
 sum-least-requires : tie.Need-sum-least-requires
 sum-least-requires c κs =
     let i = c .before .before .before in
-    (board-known _ _ (sym (c .before .before .is-board .ensures) ∙ not-false _ (c .before .if2 .left)), i .if1 .left)
+    (board-known _ _ (passed (c .before .before .is-board .ensures) (c .before .if2 .left)), i .if1 .left)
 
 same-length : tie.Need-same-length
 same-length c = search needs
@@ -32,7 +32,7 @@ returns-3 c =
     let i₄ = i₃ .before in
     let s = i₄ .before in
     rw (le-ltb _ _ (i₄ .if1 .left))
-    (prefix-done _ _ _ (sym (i₃ .is-board .ensures) ∙ not-false _ (i₂ .if2 .left)) (λ i. s .slice-known .given i .fits) (c .before .before .sum-least .ensures))
+    (prefix-done _ _ _ (passed (i₃ .is-board .ensures) (i₂ .if2 .left)) (λ i. s .slice-known .given i .fits) (c .before .before .sum-least .ensures))
 
 pub prefix-least-spec : {M : Type 1} → statement M
 prefix-least-spec =

@@ -1,9 +1,8 @@
 -- `prefix::prefix_words` meets its contract: on a board the lane holds the prefix sums; else it is left.
-use mathlib.Core.Path.{sym, _∙_}
-use borrow.Author.Tests.{not-true, not-false}
 use Rattle.lanes.proofs.Held.{board-known}
 use Rattle.prefix.proofs.Composing.{prefix-done}
 use borrow.Author.Needs.{needs}
+use Rattle.laws.proofs.Bools.{failed, passed}
 use Rattle.prefix.proofs.prefix_words.Statement.{statement}
 use Rattle.prefix.proofs.prefix_words.Tie as tie
 
@@ -11,10 +10,10 @@ is-board-requires : tie.Need-is-board-requires
 is-board-requires c κs = search needs
 
 returns : tie.Need-returns
-returns c = rw (sym (c .before .is-board .ensures) ∙ not-true _ (c .if1 .taken))
+returns c = rw (failed (c .before .is-board .ensures) (c .if1 .taken))
 
 sum-up-requires : tie.Need-sum-up-requires
-sum-up-requires c κs = board-known _ _ (sym (c .before .before .is-board .ensures) ∙ not-false _ (c .before .if1 .left))
+sum-up-requires c κs = board-known _ _ (passed (c .before .before .is-board .ensures) (c .before .if1 .left))
 
 same-length : tie.Need-same-length
 same-length c = search needs
@@ -24,7 +23,7 @@ returns-2 c =
     let i₂ = c .before .before .before .before in
     let i₃ = i₂ .before in
     let s = i₃ .before in
-    prefix-done _ _ _ (sym (i₃ .is-board .ensures) ∙ not-false _ (i₂ .if1 .left)) (λ i. s .slice-known .given i .fits) (c .before .before .sum-up .ensures)
+    prefix-done _ _ _ (passed (i₃ .is-board .ensures) (i₂ .if1 .left)) (λ i. s .slice-known .given i .fits) (c .before .before .sum-up .ensures)
 
 pub prefix-words-spec : {M : Type 1} → statement M
 prefix-words-spec =

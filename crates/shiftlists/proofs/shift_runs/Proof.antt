@@ -8,8 +8,8 @@ use mir.ValLaws.{toZ-ofZ}
 use mathlib.Core.Bool.{true, false}
 use native.Mathlib.Omega.{arith}
 use lib.Dec.{ltb}
-use borrow.Author.Tests.{ltb-true, not-true, not-false}
-use Rattle.laws.proofs.Bools.{both-left, both-right}
+use borrow.Author.Tests.{ltb-true}
+use Rattle.laws.proofs.Bools.{both-left, both-right, failed, passed}
 use Rattle.runs.specs.declared.Run.{Run}
 use Rattle.shiftlists.specs.declared.Axis.{Axis}
 use Rattle.shiftlists.specs.declared.Edge.{Edge}
@@ -33,7 +33,7 @@ inside : (c : tie.Else1) → let s = c .before .before .before .args .side in le
 inside c =
     let s = c .before .before .before .args .side in
     let d = c .before .before .distance-of .result in
-    let t : within s d ≡ true = sym (c .before .is-within .ensures) ∙ not-false _ (c .if1 .left) in
+    let t : within s d ≡ true = passed (c .before .is-within .ensures) (c .if1 .left) in
     let f = ltb-true (d .forth) s (both-left (ltb (d .forth) s) (ltb (d .back) s) t) in
     let b = ltb-true (d .back) s (both-right (ltb (d .forth) s) (ltb (d .back) s) t) in
     (omega arith, omega arith)
@@ -53,7 +53,7 @@ returns c =
     let s = d .before in
     let a = s .args in
     runs-beyond (a .side) (a .axis) (a .edge) (a .k) (d .distance-of .ensures ∙ ap distanceOf (toZ-ofZ w32 (a .k) (s .fits .k)))
-    (sym (c .before .before .is-within .ensures) ∙ not-true _ (c .before .if1 .taken)) (c .no-runs .ensures)
+    (failed (c .before .before .is-within .ensures) (c .before .if1 .taken)) (c .no-runs .ensures)
 
 forth-moves-requires : tie.Need-forth-moves-requires
 forth-moves-requires c κs = inside c
@@ -72,7 +72,7 @@ returns-2 c =
     let s = d .before in
     let a = s .args in
     runs-within (a .side) (a .axis) (a .edge) (a .k) (d .distance-of .ensures ∙ ap distanceOf (toZ-ofZ w32 (a .k) (s .fits .k)))
-    (sym (i₂ .is-within .ensures) ∙ not-false _ (i .if1 .left)) (c .before .before .forth-moves .ensures) (c .before .back-moves .ensures)
+    (passed (i₂ .is-within .ensures) (i .if1 .left)) (c .before .before .forth-moves .ensures) (c .before .back-moves .ensures)
     (c .shift-list .ensures)
 
 pub shift-runs-spec : {M : Type 1} → statement M

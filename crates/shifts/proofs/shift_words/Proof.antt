@@ -1,5 +1,5 @@
 -- `shifts::shift_words` meets its contract: on a board and within its side the words are shifted, by the moves of the list; else the lane is left.
-use mathlib.Core.Path.{sym, ap, _∙_}
+use mathlib.Core.Path.{ap, _∙_}
 use mir.Syntax.{w32}
 use mir.ValLaws.{toZ-ofZ}
 use borrow.Author.Tests.{not-true, not-false}
@@ -7,6 +7,7 @@ use Rattle.shiftlists.specs.Shifts.{shiftRuns}
 use Rattle.lanes.proofs.Held.{board-known}
 use Rattle.shifts.proofs.Composing.{within-is, forth-times, home-times, forth-few, back-few, shift-done}
 use borrow.Author.Needs.{needs}
+use Rattle.laws.proofs.Bools.{failed, passed}
 use Rattle.shifts.proofs.shift_words.Statement.{statement}
 use Rattle.shifts.proofs.shift_words.Tie as tie
 
@@ -14,7 +15,7 @@ is-board-requires : tie.Need-is-board-requires
 is-board-requires c κs = search needs
 
 returns : tie.Need-returns
-returns c = rw (sym (c .before .is-board .ensures) ∙ not-true _ (c .if1 .taken))
+returns c = rw (failed (c .before .is-board .ensures) (c .if1 .taken))
 
 distance-of-requires : tie.Need-distance-of-requires
 distance-of-requires c κs = search needs
@@ -28,7 +29,7 @@ returns-2 c =
     let i₂ = i .before in
     let s = i₂ .before .before in
     let near = within-is _ _ _ _ (s .args .k) (toZ-ofZ w32 (s .args .k) (s .fits .k)) (c .before .before .distance-of .ensures) (c .before .is-within .ensures) ∙ not-true _ (c .if2 .taken) in
-    rw (sym (i₂ .is-board .ensures) ∙ not-false _ (i .if1 .left), near)
+    rw (passed (i₂ .is-board .ensures) (i .if1 .left), near)
 
 shift-runs-requires : tie.Need-shift-runs-requires
 shift-runs-requires c κs = search needs
@@ -50,7 +51,7 @@ shift-all-requires c κs =
     let s₂ = i₄ .before .before in
     let near = within-is _ _ _ _ (s₂ .args .k) (toZ-ofZ w32 (s₂ .args .k) (s₂ .fits .k)) (d .distance-of .ensures) (i₂ .is-within .ensures) ∙ not-false _ (i .if2 .left) in
     let runs = s .shift-runs .ensures ∙ ap (shiftRuns (s₂ .args .side) (s₂ .args .axis) (s₂ .args .edge)) (toZ-ofZ w32 (s₂ .args .k) (s₂ .fits .k)) in (
-      board-known _ _ (sym (i₄ .is-board .ensures) ∙ not-false _ (i₃ .if1 .left)),
+      board-known _ _ (passed (i₄ .is-board .ensures) (i₃ .if1 .left)),
       (
         rw (forth-times (s₂ .args .side) (s₂ .args .axis) (s₂ .args .edge) (s₂ .args .k) _ _ near runs) (forth-few _ (s₂ .args .edge) _ near),
         rw (home-times (s₂ .args .side) (s₂ .args .axis) (s₂ .args .edge) (s₂ .args .k) _ _ near runs) (back-few _ (s₂ .args .edge) _ near),
@@ -71,7 +72,7 @@ returns-3 c =
     let s₂ = i₄ .before .before in
     let near = within-is _ _ _ _ (s₂ .args .k) (toZ-ofZ w32 (s₂ .args .k) (s₂ .fits .k)) (d .distance-of .ensures) (i₂ .is-within .ensures) ∙ not-false _ (i .if2 .left) in
     let runs = s .shift-runs .ensures ∙ ap (shiftRuns (s₂ .args .side) (s₂ .args .axis) (s₂ .args .edge)) (toZ-ofZ w32 (s₂ .args .k) (s₂ .fits .k)) in
-    shift-done (s₂ .args .side) (s₂ .args .axis) (s₂ .args .edge) (s₂ .args .k) _ _ (sym (i₄ .is-board .ensures) ∙ not-false _ (i₃ .if1 .left)) near
+    shift-done (s₂ .args .side) (s₂ .args .axis) (s₂ .args .edge) (s₂ .args .k) _ _ (passed (i₄ .is-board .ensures) (i₃ .if1 .left)) near
     (rw (forth-times (s₂ .args .side) (s₂ .args .axis) (s₂ .args .edge) (s₂ .args .k) _ _ near runs, home-times (s₂ .args .side) (s₂ .args .axis) (s₂ .args .edge) (s₂ .args .k) _ _ near runs) at (c .before .before .shift-all .ensures))
 
 pub shift-words-spec : {M : Type 1} → statement M

@@ -2,7 +2,8 @@
 use mathlib.Core.Path.{_≡_, sym, ap, _∙_}
 use mathlib.Core.Bool.{true, false}
 use native.Mathlib.Omega.{arith}
-use borrow.Author.Tests.{eq-eqb, ne-eqb, lt-ltb, le-ltb, not-true, not-false}
+use borrow.Author.Tests.{eq-eqb, ne-eqb, lt-ltb, le-ltb}
+use Rattle.laws.proofs.Bools.{failed, passed}
 use Rattle.array.specs.Cells.{isCell}
 use Rattle.refusals.proofs.judging.bad_aim.Statement.{statement}
 use Rattle.refusals.proofs.judging.bad_aim.Tie as tie
@@ -27,7 +28,7 @@ returns-3 c =
     let i₂ = i .before .before in
     let s₂ = i₂ .before .before in
     let s = s₂ .args in
-    let e : isCell (s .side) (s .c .aim) ≡ false = ap (isCell (s .side)) (sym (c .before .before .wide .ensures)) ∙ sym (c .before .is-cell .ensures) ∙ not-true _ (c .if3 .taken) in
+    let e : isCell (s .side) (s .c .aim) ≡ false = ap (isCell (s .side)) (sym (c .before .before .wide .ensures)) ∙ failed (c .before .is-cell .ensures) (c .if3 .taken) in
     rw (eq-eqb _ _ (i₂ .if1 .left), le-ltb (s .c .rank) (s .c .cell) (omega (arith, i .if2 .left)), e)
 
 returns-4 : tie.Need-returns-4
@@ -39,7 +40,7 @@ returns-4 c =
     let i₃ = i₂ .before .before in
     let s₂ = i₃ .before .before in
     let s = s₂ .args in
-    let e : isCell (s .side) (s .c .aim) ≡ true = ap (isCell (s .side)) (sym (w .wide .ensures)) ∙ sym (i .is-cell .ensures) ∙ not-false _ (b .if3 .left) in
+    let e : isCell (s .side) (s .c .aim) ≡ true = ap (isCell (s .side)) (sym (w .wide .ensures)) ∙ passed (i .is-cell .ensures) (b .if3 .left) in
     rw (eq-eqb _ _ (i₃ .if1 .left), le-ltb (s .c .rank) (s .c .cell) (omega (arith, i₂ .if2 .left)), e, le-ltb 0 (s .c .cell) (omega (arith, c .if4 .taken)))
 
 returns-5 : tie.Need-returns-5
@@ -51,7 +52,7 @@ returns-5 c =
     let i₄ = i₃ .before .before in
     let s₂ = i₄ .before .before in
     let s = s₂ .args in
-    let e : isCell (s .side) (s .c .aim) ≡ true = ap (isCell (s .side)) (sym (w .wide .ensures)) ∙ sym (i₂ .is-cell .ensures) ∙ not-false _ (i .if3 .left) in
+    let e : isCell (s .side) (s .c .aim) ≡ true = ap (isCell (s .side)) (sym (w .wide .ensures)) ∙ passed (i₂ .is-cell .ensures) (i .if3 .left) in
     rw (eq-eqb _ _ (i₄ .if1 .left), le-ltb (s .c .rank) (s .c .cell) (omega (arith, i₃ .if2 .left)), e, lt-ltb 0 (s .c .cell) (omega (arith, c .before .if4 .left)))
 
 pub bad-aim-spec : {M : Type 1} → statement M
