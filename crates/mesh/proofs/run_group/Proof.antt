@@ -44,7 +44,9 @@ run-line-requires c κs =
     let s = b .before in
     let l = l₂ .loop in
     let k = known (s .pre .0 .0) in
-    ((s .pre .0 .0, rw (l .inv .0, l .inv .1) (line-lies (s .args .t) (k .least) (k .most) (s .pre .0 .0 .stride) (s .pre .0 .1) (k .groups-few) (l .l) (i .if1 .taken))), (record { long = l .inv .3 .long; room = λ d h. omega (arith, s .pre .1 .0 .room d h, lined-few (k .most) (l .inv .3) d h) }, l .inv .2))
+    let y = line-lies (s .args .t) (k .least) (k .most) (s .pre .0 .0 .stride) (s .pre .0 .1) (k .groups-few) (l .l) (i .if1 .taken) in
+    let few = lined-few (k .most) (l .inv .3) in
+    ((s .pre .0 .0, rw (l .inv .0, l .inv .1) y), (record { long = l .inv .3 .long; room = λ d h. omega (arith, s .pre .1 .0 .room d h, few d h) }, l .inv .2))
 
 add-l : tie.Need-add-l Inv-loop μ-loop
 add-l c =

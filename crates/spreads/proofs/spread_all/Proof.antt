@@ -26,7 +26,11 @@ rem-spread c = search needs
 spread-requires : tie.Need-spread-requires
 spread-requires c κs =
     let s = c .before .before in
-    (omega (arith, a-in _ _ (s .pre .0) (s .pre .2), b-in _ _ (s .pre .0) (s .pre .2), c-in _ _ (s .pre .0) (s .pre .2), d-in _ _ (s .pre .0) (s .pre .2)), omega (arith, a-in _ _ (s .pre .0) (s .pre .2), b-in _ _ (s .pre .0) (s .pre .2), c-in _ _ (s .pre .0) (s .pre .2), d-in _ _ (s .pre .0) (s .pre .2)))
+    let x = a-in _ _ (s .pre .0) (s .pre .2) in
+    let y = b-in _ _ (s .pre .0) (s .pre .2) in
+    let z = c-in _ _ (s .pre .0) (s .pre .2) in
+    let w = d-in _ _ (s .pre .0) (s .pre .2) in
+    (omega (arith, x, y, z, w), omega (arith, x, y, z, w))
 
 swap-words-requires : tie.Need-swap-words-requires
 swap-words-requires c κs = search needs

@@ -32,7 +32,8 @@ lay-slots-requires c κs =
 
 lay-slots-requires-2 : tie.Need-lay-slots-requires-2
 lay-slots-requires-2 c κs =
-    let s₂ = c .before .before .before .before .before .before .before .before .before .before .before .before .before .before .before .before .before .before .before .before .before .before .before .before .before .before .before .before .before .before .before .before .before .before .before .before .before .before in
+    let h = c .before .before .before .before .before .before .before .before .before .before .before .before .before .before .before .before .before .before .before in
+    let s₂ = h .before .before .before .before .before .before .before .before .before .before .before .before .before .before .before .before .before .before .before in
     let s = s₂ .pre in let z = s .1 .1 in (s .0 .1, record { words = z .words2; marks = z .marks2; aims = z .aims2 })
 
 same-length : tie.Need-same-length
