@@ -63,6 +63,34 @@ fn across(side: usize, list: &[u16], g: usize, p: usize) -> usize
     wide(list[g * groups + p])
 }
 
+// Cells j and p of a lane exchange what they hold: a function for each kind of lane, since they differ in their type.
+fn exchange_words(j: usize, p: usize, words: &mut [u32])
+    requires { ⌜ (j < p) × (p < length (now words)) ⌝ }
+    ensures { λ _. ⌜ Exchanged j p words ⌝ }
+{
+    let word = words[j];
+    words[j] = words[p];
+    words[p] = word;
+}
+
+fn exchange_marks(j: usize, p: usize, marks: &mut [u8])
+    requires { ⌜ (j < p) × (p < length (now marks)) ⌝ }
+    ensures { λ _. ⌜ Exchanged j p marks ⌝ }
+{
+    let mark = marks[j];
+    marks[j] = marks[p];
+    marks[p] = mark;
+}
+
+fn exchange_aims(j: usize, p: usize, aims: &mut [u16])
+    requires { ⌜ (j < p) × (p < length (now aims)) ⌝ }
+    ensures { λ _. ⌜ Exchanged j p aims ⌝ }
+{
+    let aim = aims[j];
+    aims[j] = aims[p];
+    aims[p] = aim;
+}
+
 // The turn of group g: its cells trade with their partners, where these come later. They are those past place g.
 fn trade_group(side: usize, list: &[u16], g: usize, lane: &mut [u32])
     requires { ⌜ isBoard side (length (now lane)) ≡ true ⌝ }
@@ -73,11 +101,8 @@ fn trade_group(side: usize, list: &[u16], g: usize, lane: &mut [u32])
     let groups = side * side;
     let mut p: usize = g + 1;
     while p < groups {
-        let j = g * groups + p;
         let q = across(side, list, g, p);
-        let word = lane[j];
-        lane[j] = lane[q];
-        lane[q] = word;
+        exchange_words(g * groups + p, q, lane);
         p += 1;
     }
 }
@@ -118,29 +143,15 @@ fn one(mark: u8) -> usize
     if mark == 0 { 0 } else { 1 }
 }
 
-// Cells j and p exchange what they hold in one slot: its word, its mark and its aim.
-fn exchange(j: usize, p: usize, words: &mut [u32], marks: &mut [u8], aims: &mut [u16])
-    requires { ⌜ (j < p) × HasCell p words marks aims ⌝ }
-    ensures { λ _. ⌜ Exchanged j p words × (Exchanged j p marks × Exchanged j p aims) ⌝ }
-{
-    let word = words[j];
-    words[j] = words[p];
-    words[p] = word;
-    let mark = marks[j];
-    marks[j] = marks[p];
-    marks[p] = mark;
-    let aim = aims[j];
-    aims[j] = aims[p];
-    aims[p] = aim;
-}
-
 // Cells j and p trade what they hold in one slot; how many records are in another cell then.
 fn trade_slot(j: usize, p: usize, words: &mut [u32], marks: &mut [u8], aims: &mut [u16]) -> usize
     requires { ⌜ (j < p) × HasCell p words marks aims ⌝ }
     ensures { λ r. ⌜ TradedSlot j p words marks aims r ⌝ }
 {
     let moved = one(marks[j]) + one(marks[p]);
-    exchange(j, p, words, marks, aims);
+    exchange_words(j, p, words);
+    exchange_marks(j, p, marks);
+    exchange_aims(j, p, aims);
     moved
 }
 
