@@ -133,8 +133,8 @@ pub fn swap_words(side: usize, lane: &mut [u32])
         trade_words(side, &list[..], lane);
         return;
     }
-    let none = [0u16; 1];
-    trade_words(side, &none[..0], lane);
+    let none = [0u16; 0];
+    trade_words(side, &none[..], lane);
 }
 
 fn one(mark: u8) -> usize
@@ -224,17 +224,8 @@ fn trade_times(
     moved
 }
 
-// The board of side 8 goes by its link list, where there is a swap to make.
-fn by_links(side: usize, times: usize) -> bool
-    ensures { λ r. ⌜ (r ≡ true → side ≡ 8) ⌝ }
-{
-    if times == 0 {
-        return false;
-    }
-    side == 8
-}
-
-// So many swaps of all six lanes; how many records each takes to another cell. A slot's lanes that are not a board's stay.
+// So many swaps of all six lanes; how many records each takes to another cell. A slot's lanes that are not a board's stay. The link list is
+// taken once, where there is a swap to make by it.
 pub fn swap_lanes(
     side: usize,
     times: usize,
@@ -247,21 +238,14 @@ pub fn swap_lanes(
 ) -> usize
     ensures { λ r. ⌜ SwappedLanes side times words marks aims «spare_words» «spare_marks» «spare_aims» r ⌝ }
 {
-    if by_links(side, times) {
-        let list = links();
-        let front = trade_times(side, times, &list[..], words, marks, aims);
-        let spare = trade_times(side, times, &list[..], spare_words, spare_marks, spare_aims);
-        return front + spare;
+    if counted(side == 8, times) > 0 {
+        let links = links();
+        let list = &links[..];
+        let front = trade_times(side, times, list, words, marks, aims);
+        return front + trade_times(side, times, list, spare_words, spare_marks, spare_aims);
     }
-    let none = [0u16; 1];
-    let front = trade_times(side, times, &none[..0], words, marks, aims);
-    let spare = trade_times(
-        side,
-        times,
-        &none[..0],
-        spare_words,
-        spare_marks,
-        spare_aims,
-    );
-    front + spare
+    let none = [0u16; 0];
+    let list = &none[..];
+    let front = trade_times(side, times, list, words, marks, aims);
+    front + trade_times(side, times, list, spare_words, spare_marks, spare_aims)
 }
