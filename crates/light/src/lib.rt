@@ -16,13 +16,7 @@ ghost use Rattle.light.specs.Inside.{Listed, GroupTurned, lent, HasCell,
 fn are_slots(side: usize, words: usize, marks: usize, aims: usize) -> bool
     ensures { λ r. ⌜ r ≡ areSlots side words marks aims ⌝ }
 {
-    if !is_board(side, words) {
-        return false;
-    }
-    if !is_board(side, marks) {
-        return false;
-    }
-    is_board(side, aims)
+    is_board(side, words) && (is_board(side, marks) && is_board(side, aims))
 }
 
 // Six lanes of these lengths are those of a board.
@@ -37,10 +31,7 @@ pub fn are_lanes(
 ) -> bool
     ensures { λ r. ⌜ r ≡ areLanes side words marks aims «spare_words» «spare_marks» «spare_aims» ⌝ }
 {
-    if !are_slots(side, words, marks, aims) {
-        return false;
-    }
-    are_slots(side, spare_words, spare_marks, spare_aims)
+    are_slots(side, words, marks, aims) && are_slots(side, spare_words, spare_marks, spare_aims)
 }
 
 fn wide(x: u16) -> usize
