@@ -206,14 +206,12 @@ pub both-swapped : {s n : ℕ} {t t₂ u u₂ : Slots} {a b r : ℕ} → Times s
     → Swapped s n (record { front = t; spare = t₂ }) (record { front = u; spare = u₂ }) r
 both-swapped y z e = record { front = y .lanes; spare = z .lanes; count = e ∙ ap₂ _+_ (y .count) (z .count) }
 
--- as many swaps as there are to make, and some only of a board
-module _ (s times : ℕ) (t : Slots) {n : ℕ} {a : Bool} (f : a ≡ onBoard s t) (e : n ≡ cond a times 0) where
-  pub some-counted : 0 < n → onBoard s t ≡ true
-  some-counted h = sym f ∙ go a e
-    where
-      go : (b : Bool) → n ≡ cond b times 0 → b ≡ true
-      go true g = refl
-      go false g = absurd (omega arith)
+-- some are counted only where they count
+pub some-counted : {n : ℕ} (times : ℕ) (a : Bool) → n ≡ cond a times 0 → 0 < n → a ≡ true
+some-counted times true e h = refl
+some-counted times false e h = absurd (omega arith)
 
+-- as many swaps as there are to make
+module _ (s times : ℕ) (t : Slots) {n : ℕ} {a : Bool} (f : a ≡ onBoard s t) (e : n ≡ cond a times 0) where
   pub times-counted : {u : Slots} {r : ℕ} → Times s n t u r → Times s (swapsOn s times t) t u r
   times-counted {u} {r} z = subst (λ (k : ℕ). Times s k t u r) (e ∙ ap (λ (b : Bool). cond b times 0) f) z

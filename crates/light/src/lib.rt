@@ -16,13 +16,7 @@ ghost use Rattle.light.specs.Inside.{Listed, GroupTurned, lent, HasCell,
 fn are_slots(side: usize, words: usize, marks: usize, aims: usize) -> bool
     ensures { λ r. ⌜ r ≡ areSlots side words marks aims ⌝ }
 {
-    if !is_board(side, words) {
-        return false;
-    }
-    if !is_board(side, marks) {
-        return false;
-    }
-    is_board(side, aims)
+    is_board(side, words) && (is_board(side, marks) && is_board(side, aims))
 }
 
 // Six lanes of these lengths are those of a board.
@@ -37,10 +31,7 @@ pub fn are_lanes(
 ) -> bool
     ensures { λ r. ⌜ r ≡ areLanes side words marks aims «spare_words» «spare_marks» «spare_aims» ⌝ }
 {
-    if !are_slots(side, words, marks, aims) {
-        return false;
-    }
-    are_slots(side, spare_words, spare_marks, spare_aims)
+    are_slots(side, words, marks, aims) && are_slots(side, spare_words, spare_marks, spare_aims)
 }
 
 fn wide(x: u16) -> usize
@@ -63,6 +54,34 @@ fn across(side: usize, list: &[u16], g: usize, p: usize) -> usize
     wide(list[g * groups + p])
 }
 
+// Cells j and p of a lane exchange what they hold: a function for each kind of lane, since they differ in their type.
+fn exchange_words(j: usize, p: usize, words: &mut [u32])
+    requires { ⌜ (j < p) × (p < length (now words)) ⌝ }
+    ensures { λ _. ⌜ Exchanged j p words ⌝ }
+{
+    let word = words[j];
+    words[j] = words[p];
+    words[p] = word;
+}
+
+fn exchange_marks(j: usize, p: usize, marks: &mut [u8])
+    requires { ⌜ (j < p) × (p < length (now marks)) ⌝ }
+    ensures { λ _. ⌜ Exchanged j p marks ⌝ }
+{
+    let mark = marks[j];
+    marks[j] = marks[p];
+    marks[p] = mark;
+}
+
+fn exchange_aims(j: usize, p: usize, aims: &mut [u16])
+    requires { ⌜ (j < p) × (p < length (now aims)) ⌝ }
+    ensures { λ _. ⌜ Exchanged j p aims ⌝ }
+{
+    let aim = aims[j];
+    aims[j] = aims[p];
+    aims[p] = aim;
+}
+
 // The turn of group g: its cells trade with their partners, where these come later. They are those past place g.
 fn trade_group(side: usize, list: &[u16], g: usize, lane: &mut [u32])
     requires { ⌜ isBoard side (length (now lane)) ≡ true ⌝ }
@@ -73,11 +92,8 @@ fn trade_group(side: usize, list: &[u16], g: usize, lane: &mut [u32])
     let groups = side * side;
     let mut p: usize = g + 1;
     while p < groups {
-        let j = g * groups + p;
         let q = across(side, list, g, p);
-        let word = lane[j];
-        lane[j] = lane[q];
-        lane[q] = word;
+        exchange_words(g * groups + p, q, lane);
         p += 1;
     }
 }
@@ -108,8 +124,8 @@ pub fn swap_words(side: usize, lane: &mut [u32])
         trade_words(side, &list[..], lane);
         return;
     }
-    let none = [0u16; 1];
-    trade_words(side, &none[..0], lane);
+    let none = [0u16; 0];
+    trade_words(side, &none[..], lane);
 }
 
 fn one(mark: u8) -> usize
@@ -118,29 +134,15 @@ fn one(mark: u8) -> usize
     if mark == 0 { 0 } else { 1 }
 }
 
-// Cells j and p exchange what they hold in one slot: its word, its mark and its aim.
-fn exchange(j: usize, p: usize, words: &mut [u32], marks: &mut [u8], aims: &mut [u16])
-    requires { ⌜ (j < p) × HasCell p words marks aims ⌝ }
-    ensures { λ _. ⌜ Exchanged j p words × (Exchanged j p marks × Exchanged j p aims) ⌝ }
-{
-    let word = words[j];
-    words[j] = words[p];
-    words[p] = word;
-    let mark = marks[j];
-    marks[j] = marks[p];
-    marks[p] = mark;
-    let aim = aims[j];
-    aims[j] = aims[p];
-    aims[p] = aim;
-}
-
 // Cells j and p trade what they hold in one slot; how many records are in another cell then.
 fn trade_slot(j: usize, p: usize, words: &mut [u32], marks: &mut [u8], aims: &mut [u16]) -> usize
     requires { ⌜ (j < p) × HasCell p words marks aims ⌝ }
     ensures { λ r. ⌜ TradedSlot j p words marks aims r ⌝ }
 {
     let moved = one(marks[j]) + one(marks[p]);
-    exchange(j, p, words, marks, aims);
+    exchange_words(j, p, words);
+    exchange_marks(j, p, marks);
+    exchange_aims(j, p, aims);
     moved
 }
 
@@ -213,17 +215,8 @@ fn trade_times(
     moved
 }
 
-// The board of side 8 goes by its link list, where there is a swap to make.
-fn by_links(side: usize, times: usize) -> bool
-    ensures { λ r. ⌜ (r ≡ true → side ≡ 8) ⌝ }
-{
-    if times == 0 {
-        return false;
-    }
-    side == 8
-}
-
-// So many swaps of all six lanes; how many records each takes to another cell. A slot's lanes that are not a board's stay.
+// So many swaps of all six lanes; how many records each takes to another cell. A slot's lanes that are not a board's stay. The link list is
+// taken once, where there is a swap to make by it.
 pub fn swap_lanes(
     side: usize,
     times: usize,
@@ -236,21 +229,14 @@ pub fn swap_lanes(
 ) -> usize
     ensures { λ r. ⌜ SwappedLanes side times words marks aims «spare_words» «spare_marks» «spare_aims» r ⌝ }
 {
-    if by_links(side, times) {
-        let list = links();
-        let front = trade_times(side, times, &list[..], words, marks, aims);
-        let spare = trade_times(side, times, &list[..], spare_words, spare_marks, spare_aims);
-        return front + spare;
+    if counted(side == 8, times) > 0 {
+        let links = links();
+        let list = &links[..];
+        let front = trade_times(side, times, list, words, marks, aims);
+        return front + trade_times(side, times, list, spare_words, spare_marks, spare_aims);
     }
-    let none = [0u16; 1];
-    let front = trade_times(side, times, &none[..0], words, marks, aims);
-    let spare = trade_times(
-        side,
-        times,
-        &none[..0],
-        spare_words,
-        spare_marks,
-        spare_aims,
-    );
-    front + spare
+    let none = [0u16; 0];
+    let list = &none[..];
+    let front = trade_times(side, times, list, words, marks, aims);
+    front + trade_times(side, times, list, spare_words, spare_marks, spare_aims)
 }

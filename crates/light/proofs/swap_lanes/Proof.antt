@@ -1,51 +1,53 @@
 use mathlib.Core.Path.{refl}
-use Rattle.light.proofs.Partners.{listed-links, listed-none}
-use Rattle.light.proofs.Walking.{both-swapped}
+use native.Mathlib.Omega.{arith}
 use borrow.Author.Needs.{needs}
+use borrow.Author.Tests.{eqb-true}
+use Rattle.light.proofs.Partners.{listed-links, listed-none}
+use Rattle.light.proofs.Walking.{some-counted, both-swapped}
 use Rattle.light.proofs.swap_lanes.Statement.{statement}
 use Rattle.light.proofs.swap_lanes.Tie as tie
 
-by-links-requires : tie.Need-by-links-requires
-by-links-requires c κs = tt
+counted-requires : tie.Need-counted-requires
+counted-requires c κs = tt
 
 links-requires : tie.Need-links-requires
 links-requires c κs = tt
 
-slice-aggregate-trade-times : tie.Need-slice-aggregate-trade-times
-slice-aggregate-trade-times c = search needs
+slice-aggregate-list : tie.Need-slice-aggregate-list
+slice-aggregate-list c = search needs
 
 trade-times-requires : tie.Need-trade-times-requires
 trade-times-requires c κs =
     let i = c .before .before .before .before .before in
-    let bl = i .before in
-    listed-links _ _ (bl .by-links .ensures (i .if1 .taken)) (c .before .before .before .before .links .ensures)
-
-slice-aggregate-trade-times-2 : tie.Need-slice-aggregate-trade-times-2
-slice-aggregate-trade-times-2 c = search needs
+    let x = i .before in
+    listed-links _ _ (eqb-true _ _ (some-counted _ _ (x .counted .ensures) (i .if1 .taken))) (c .before .before .before .before .links .ensures)
 
 trade-times-requires-2 : tie.Need-trade-times-requires-2
 trade-times-requires-2 c κs =
-    let l = c .before .before .before .before .before .before .before .before .before .before .before .before .before .before .before in
+    let l = c .before .before .before .before .before .before .before .before .before .before .before .before .before .before in
     let i = l .before in
-    let bl = i .before in
-    listed-links _ _ (bl .by-links .ensures (i .if1 .taken)) (l .links .ensures)
+    let x = i .before in
+    listed-links _ _ (eqb-true _ _ (some-counted _ _ (x .counted .ensures) (i .if1 .taken))) (l .links .ensures)
 
 add-result : tie.Need-add-result
-add-result c = search needs
+add-result c =
+    let t = c .before .before .before .before .before .before in
+    let t₂ = t .before .before .before .before .before .before .before .before .before .before in
+    omega (arith, t₂ .trade-times .ensures .few, t .trade-times2 .ensures .few)
 
 same-length : tie.Need-same-length
 same-length c =
-    let t = c .before .before .before .before .before .before .before .before .before .before .before .before .before .before .before .before .before in
+    let t = c .before .before .before .before .before .before .before .before .before .before .before .before .before .before .before .before in
     t .trade-times .kept .1 .1 .1 .0
 
 same-length-2 : tie.Need-same-length-2
 same-length-2 c =
-    let t = c .before .before .before .before .before .before .before .before .before .before .before .before .before .before .before .before .before in
+    let t = c .before .before .before .before .before .before .before .before .before .before .before .before .before .before .before .before in
     t .trade-times .kept .1 .1 .1 .1 .0
 
 same-length-3 : tie.Need-same-length-3
 same-length-3 c =
-    let t = c .before .before .before .before .before .before .before .before .before .before .before .before .before .before .before .before .before in
+    let t = c .before .before .before .before .before .before .before .before .before .before .before .before .before .before .before .before in
     t .trade-times .kept .1 .1 .1 .1 .1 .0
 
 same-length-4 : tie.Need-same-length-4
@@ -60,47 +62,41 @@ same-length-6 c = c .before .before .before .before .before .before .trade-times
 returns : tie.Need-returns
 returns c =
     let t = c .before .before .before .before .before .before in
-    let t₂ = t .before .before .before .before .before .before .before .before .before .before .before in
+    let t₂ = t .before .before .before .before .before .before .before .before .before .before in
     both-swapped (t₂ .trade-times .ensures) (t .trade-times2 .ensures) refl
 
-array-share-prefix-none : tie.Need-array-share-prefix-none
-array-share-prefix-none c = search needs
-
-slice-aggregate-trade-times-3 : tie.Need-slice-aggregate-trade-times-3
-slice-aggregate-trade-times-3 c = search needs
+slice-aggregate-list-2 : tie.Need-slice-aggregate-list-2
+slice-aggregate-list-2 c = refl
 
 trade-times-requires-3 : tie.Need-trade-times-requires-3
 trade-times-requires-3 c κs =
     let s = c .before .before .before .before .before .before .before .before .before .before .before .before in
     listed-none (s .args .side)
 
-array-share-prefix-none-2 : tie.Need-array-share-prefix-none-2
-array-share-prefix-none-2 c = search needs
-
-slice-aggregate-trade-times-4 : tie.Need-slice-aggregate-trade-times-4
-slice-aggregate-trade-times-4 c = search needs
-
 trade-times-requires-4 : tie.Need-trade-times-requires-4
 trade-times-requires-4 c κs =
-    let s = c .before .before .before .before .before .before .before .before .before .before .before .before .before .before .before .before .before .before .before .before .before .before .before in
+    let s = c .before .before .before .before .before .before .before .before .before .before .before .before .before .before .before .before .before .before .before .before .before .before in
     listed-none (s .args .side)
 
 add-result-2 : tie.Need-add-result-2
-add-result-2 c = search needs
+add-result-2 c =
+    let t = c .before .before .before .before .before .before in
+    let t₂ = t .before .before .before .before .before .before .before .before .before .before in
+    omega (arith, t₂ .trade-times3 .ensures .few, t .trade-times4 .ensures .few)
 
 same-length-7 : tie.Need-same-length-7
 same-length-7 c =
-    let t = c .before .before .before .before .before .before .before .before .before .before .before .before .before .before .before .before .before in
+    let t = c .before .before .before .before .before .before .before .before .before .before .before .before .before .before .before .before in
     t .trade-times3 .kept .1 .1 .1 .0
 
 same-length-8 : tie.Need-same-length-8
 same-length-8 c =
-    let t = c .before .before .before .before .before .before .before .before .before .before .before .before .before .before .before .before .before in
+    let t = c .before .before .before .before .before .before .before .before .before .before .before .before .before .before .before .before in
     t .trade-times3 .kept .1 .1 .1 .1 .0
 
 same-length-9 : tie.Need-same-length-9
 same-length-9 c =
-    let t = c .before .before .before .before .before .before .before .before .before .before .before .before .before .before .before .before .before in
+    let t = c .before .before .before .before .before .before .before .before .before .before .before .before .before .before .before .before in
     t .trade-times3 .kept .1 .1 .1 .1 .1 .0
 
 same-length-10 : tie.Need-same-length-10
@@ -115,18 +111,17 @@ same-length-12 c = c .before .before .before .before .before .before .trade-time
 returns-2 : tie.Need-returns-2
 returns-2 c =
     let t = c .before .before .before .before .before .before in
-    let t₂ = t .before .before .before .before .before .before .before .before .before .before .before in
+    let t₂ = t .before .before .before .before .before .before .before .before .before .before in
     both-swapped (t₂ .trade-times3 .ensures) (t .trade-times4 .ensures) refl
 
 pub swap-lanes-spec : {M : Type 1} → statement M
 swap-lanes-spec =
     tie.close
     (tie.spec
-    by-links-requires
+    counted-requires
     links-requires
-    slice-aggregate-trade-times
+    slice-aggregate-list
     trade-times-requires
-    slice-aggregate-trade-times-2
     trade-times-requires-2
     add-result
     same-length
@@ -136,11 +131,8 @@ swap-lanes-spec =
     same-length-5
     same-length-6
     returns
-    array-share-prefix-none
-    slice-aggregate-trade-times-3
+    slice-aggregate-list-2
     trade-times-requires-3
-    array-share-prefix-none-2
-    slice-aggregate-trade-times-4
     trade-times-requires-4
     add-result-2
     same-length-7

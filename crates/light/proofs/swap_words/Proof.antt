@@ -33,9 +33,6 @@ same-length c = search needs
 returns-2 : tie.Need-returns-2
 returns-2 c = search needs
 
-array-share-prefix-none : tie.Need-array-share-prefix-none
-array-share-prefix-none c = search needs
-
 slice-aggregate-trade-words-2 : tie.Need-slice-aggregate-trade-words-2
 slice-aggregate-trade-words-2 c = search needs
 
@@ -63,7 +60,6 @@ swap-words-spec =
     trade-words-requires
     same-length
     returns-2
-    array-share-prefix-none
     slice-aggregate-trade-words-2
     trade-words-requires-2
     same-length-2

@@ -19,8 +19,14 @@ one-requires-2 c κs = search needs
 add-moved : tie.Need-add-moved
 add-moved c = search needs
 
-exchange-requires : tie.Need-exchange-requires
-exchange-requires c κs = search needs
+exchange-words-requires : tie.Need-exchange-words-requires
+exchange-words-requires c κs = search needs
+
+exchange-marks-requires : tie.Need-exchange-marks-requires
+exchange-marks-requires c κs = search needs
+
+exchange-aims-requires : tie.Need-exchange-aims-requires
+exchange-aims-requires c κs = search needs
 
 same-length : tie.Need-same-length
 same-length c = search needs
@@ -33,14 +39,11 @@ same-length-3 c = search needs
 
 returns : tie.Need-returns
 returns c =
-    let b = c .before .before .before .before .before in
-    let e = b .before in
-    let o = e .before .before .before .before in
+    let em = c .before .before .before .before .before .before in
+    let ew = em .before .before .before .before in
+    let o = ew .before .before in
     let o₂ = o .before .before in
-    let x = e .exchange .ensures in
-    let y = o₂ .one .ensures in
-    let z = o .one2 .ensures in
-    traded-some (y .0) (z .0) (y .1) (z .1) refl (x .0) (x .1 .0) (x .1 .1)
+    traded-some (o₂ .one .ensures .0) (o .one2 .ensures .0) (o₂ .one .ensures .1) (o .one2 .ensures .1) refl (ew .exchange-words .ensures) (em .exchange-marks .ensures) (c .before .before .exchange-aims .ensures)
 
 pub trade-slot-spec : {M : Type 1} → statement M
 trade-slot-spec =
@@ -51,7 +54,9 @@ trade-slot-spec =
     slice-read-one-2
     one-requires-2
     add-moved
-    exchange-requires
+    exchange-words-requires
+    exchange-marks-requires
+    exchange-aims-requires
     same-length
     same-length-2
     same-length-3

@@ -1,5 +1,5 @@
 use Prim.Native.Nat.{_-_, _≤_, _<_}
-use mathlib.Core.Path.{_≡_, refl}
+use mathlib.Core.Path.{_≡_, refl, sym, _∙_}
 use mathlib.Core.Bool.{true}
 use native.Mathlib.Omega.{arith}
 use lib.ListN.{length}
@@ -25,9 +25,7 @@ counted-requires c κs = tt
 
 loop-holds : tie.Need-loop-holds Inv-loop μ-loop
 loop-holds c =
-    let s = c .before .before .before .before .before .before in
-    let a = s .args in
-    (some-counted (a .side) (a .times) (slots (a .words .now) (a .marks .now) (a .aims .now)) (c .before .are-slots .ensures) (c .counted .ensures), omega arith, refl, refl, refl, times-start _ _)
+    (λ h. sym (c .before .are-slots .ensures) ∙ some-counted _ _ (c .counted .ensures) h, omega arith, refl, refl, refl, times-start _ _)
 
 trade-slots-requires : tie.Need-trade-slots-requires Inv-loop μ-loop
 trade-slots-requires c κs =
