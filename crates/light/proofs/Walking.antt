@@ -60,7 +60,6 @@ sweeping-start {s} {g} t b h =
 module _ {s g p moved : ℕ} {t u : Slots} (z : Sweeping s g p t u moved) (h : p < groups s) where
   pub sweeping-step : {v : Slots} {q r : ℕ} → q ≡ partner s (cell s g p) → Traded (cell s g p) q u v r → Sweeping s g (p + 1) t v (moved + r)
   sweeping-step {v} {q} {r} e y =
-      let l = z .marks .after in
       rw (y .lanes)
       (record {
         words = trades-turn (z .words) h e;

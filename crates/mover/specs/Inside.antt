@@ -55,7 +55,7 @@ pub record Made (l : Leg) (n : ℕ) (t : Tally) (T T′ : ℕ → Cell) : Type 0
   pub went : (d : ℕ) → d < 8 → getD (t .went) d 0 ≡ wentIn (lineRuleOf l) d T
   pub leaves : t .swapped ≡ cond (eqb n 0) 0 (leaving (l .side) (ranOn (lineRuleOf l) T))
 
--- those of run r were, of which k are left to make
+-- those of run r were, as far as the k moves go that are left of the list
 pub record MadeRun (trip : Trip) (s swaps : ℕ) (r : Run) (k : ℕ) (t : Tally) (T T′ : ℕ → Cell) : Type 0 where
   pub upto : t .made ≡ madeOf r k
   pub swaps-made : t .swaps ≡ swapsIn (r .step) (t .made)
