@@ -7,7 +7,7 @@ use lib.ListN.{length}
 use Rattle.answers.specs.declared.Answer.{Answer}
 use Rattle.answers.specs.declared.Case.{Case}
 use Rattle.runs.specs.declared.Run.{Run}
-use Rattle.array.specs.Cells.{isSide, cells}
+use Rattle.array.specs.Cells.{isSide, isCell, cells}
 use Rattle.runs.specs.Runs.{moves, electronic, swaps}
 
 abbrev pub refused : ℕ → ℕ → Answer
@@ -44,3 +44,12 @@ laneCase s n = caseOf (not (eqb n (cells s))) 2 0
 -- 3: a log is shorter than the move list
 abbrev pub logCase : List Run → ℕ → Case
 logCase rs n = caseOf (ltb n (length (moves rs))) 3 0
+
+-- 4: there is no such cell
+abbrev pub cellCase : ℕ → ℕ → Case
+cellCase s i = caseOf (not (isCell s i)) 4 0
+
+-- a table of cases without its logs' cases, of an entry that is lent none
+abbrev pub withoutLogs : List Case → List Case
+withoutLogs [] = []
+withoutLogs (c ∷ cs) = cond (eqb (c .number) 3) (withoutLogs cs) (c ∷ withoutLogs cs)

@@ -1,4 +1,5 @@
 // How an entry answers: the first of its cases that applies, in the order of their numbers, or that it was accepted.
+use array::cells::is_cell;
 use array::cells::is_cells;
 use array::cells::is_side;
 use runs::Found;
@@ -11,7 +12,7 @@ ghost use mathlib.Core.List.{[], _∷_};
 ghost use lib.Dec.{ltb};
 ghost use lib.ListN.{length as lengthOf};
 ghost use Rattle.runs.specs.Runs.{moves};
-ghost use Rattle.answers.specs.Answers.{refused as refusedOf, accepted as acceptedOf, acceptedBy, caseOf, refusing as refusingOf, verdict, sideCase, laneCase, logCase};
+ghost use Rattle.answers.specs.Answers.{refused as refusedOf, accepted as acceptedOf, acceptedBy, caseOf, refusing as refusingOf, verdict, sideCase, laneCase, logCase, cellCase};
 
 // The refusal number, or 0; the place that it names; the moves that were made.
 #[repr(C)]
@@ -40,7 +41,8 @@ fn refused(number: usize, place: usize) -> Answer
     }
 }
 
-fn accepted(electronic: usize, swaps: usize) -> Answer
+// The answer of so many moves.
+pub fn accepted(electronic: usize, swaps: usize) -> Answer
     ensures { λ r. ⌜ r ≡ acceptedOf electronic swaps ⌝ }
 {
     Answer {
@@ -79,6 +81,12 @@ pub fn lane_case(side: usize, length: usize) -> Case
     ensures { λ r. ⌜ r ≡ laneCase side length ⌝ }
 {
     case_of(!is_cells(side, length), 2, 0)
+}
+
+pub fn cell_case(side: usize, cell: usize) -> Case
+    ensures { λ r. ⌜ r ≡ cellCase side cell ⌝ }
+{
+    case_of(!is_cell(side, cell), 4, 0)
 }
 
 // The list has a move that a log of this length does not reach.

@@ -60,3 +60,16 @@ module _ (test : ℕ → Bool) (n : ℕ) where
 
   pub all-passed : ((k : ℕ) → k < n → test k ≡ false) → first test n ≡ n
   all-passed h = passed-from 0 n (λ k l u. h k (omega arith)) ∙ zero-add n
+
+  -- what is found passes the test
+  found-from : (i m : ℕ) → firstFrom test i m < i + m → test (firstFrom test i m) ≡ true
+  found-from i zero h = absurd (omega arith)
+  found-from i (suc m) h = go (test i) refl h (found-from (suc i) m)
+    where
+      go : (b : Bool) → test i ≡ b → cond b i (firstFrom test (suc i) m) < i + suc m
+          → (firstFrom test (suc i) m < suc i + m → test (firstFrom test (suc i) m) ≡ true) → test (cond b i (firstFrom test (suc i) m)) ≡ true
+      go true e h rest = e
+      go false e h rest = rest (omega arith)
+
+  pub found-passes : first test n < n → test (first test n) ≡ true
+  found-passes h = found-from 0 n (omega arith)

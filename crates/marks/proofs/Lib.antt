@@ -1,2 +1,3 @@
 pub mod Bounded
 pub mod Checked
+pub mod Counting

@@ -1,10 +1,11 @@
-// The check of the marks, which every entry that reads marks makes.
+// The check of the marks, which every entry that reads marks makes, and how many there are.
 use answers::Case;
 use answers::case_of;
 ghost use mathlib.Core.Path.{_≡_};
-ghost use Prim.Native.Nat.{_≤_};
+ghost use Prim.Native.Nat.{_%_, _^_, _≤_};
+ghost use lib.ListN.{length};
 ghost use Rattle.laws.specs.Lent.{old};
-ghost use Rattle.marks.specs.Marks.{marksCase};
+ghost use Rattle.marks.specs.Marks.{marksCase, rankIn};
 ghost use Rattle.marks.specs.Inside.{AtMost};
 
 fn greater(a: u8, b: u8) -> u8
@@ -48,4 +49,23 @@ pub fn marks_case(marks: &[u8]) -> Case
         return case_of(false, 5, marks.len());
     }
     search(marks)
+}
+
+fn wide(mark: u8) -> u16
+    ensures { λ r. ⌜ r ≡ mark ⌝ }
+{
+    mark as u16
+}
+
+// How many cells are marked, modulo 2^16: no board has as many. Of numbers of 16 bits a processor adds many at a time.
+pub fn count_marks(marks: &[u8]) -> usize
+    ensures { λ r. ⌜ r ≡ rankIn (old marks) (length (old marks)) % 2 ^ 16 ⌝ }
+{
+    let mut count: u16 = 0;
+    let mut i: usize = 0;
+    while i < marks.len() {
+        count = std::num::wrapping_add_u16(count, wide(marks[i]));
+        i += 1;
+    }
+    count as usize
 }

@@ -15,15 +15,15 @@ use Rattle.lists.specs.declared.Trip.the-variants.{Concentrate, Distribute}
 use Rattle.marks.specs.Marks.{rankIn}
 use Rattle.refusals.specs.Cases.{Good}
 
-and-false : (a b : Bool) → (a && b) ≡ false → a ≡ true → b ≡ false
+pub and-false : (a b : Bool) → (a && b) ≡ false → a ≡ true → b ≡ false
 and-false true b h e = h
 and-false false b h e = absurd (let z : _≡_ {A = ℕ} 0 1 = cc in omega arith)
 
-or-false : (a b : Bool) → (a || b) ≡ false → (a ≡ false) × (b ≡ false)
+pub or-false : (a b : Bool) → (a || b) ≡ false → (a ≡ false) × (b ≡ false)
 or-false true b h = absurd (let z : _≡_ {A = ℕ} 0 1 = cc in omega arith)
 or-false false b h = (refl, h)
 
-not-is : (a : Bool) → not a ≡ false → a ≡ true
+pub not-is : (a : Bool) → not a ≡ false → a ≡ true
 not-is true h = refl
 not-is false h = absurd (let z : _≡_ {A = ℕ} 0 1 = cc in omega arith)
 

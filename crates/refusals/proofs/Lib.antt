@@ -1,6 +1,7 @@
 pub mod Accepting
 pub mod Aims
 pub mod FirstMoves
+pub mod Joined
 pub mod Judged
 pub mod Order
 pub mod Verdicting

@@ -14,11 +14,12 @@ use laws::least;
 use lists::Trip;
 use lists::runs_of;
 use lists::total_moves;
+use marks::count_marks;
 use marks::marks_case;
 use runs::Run;
 use runs::no_runs;
 ghost use mathlib.Core.Path.{_≡_};
-ghost use mathlib.Core.Bool.{_&&_};
+ghost use mathlib.Core.Bool.{_&&_, _||_};
 ghost use Prim.Native.Nat.{ℕ, _<_, _≤_};
 ghost use lib.Dec.{ltb};
 ghost use lib.ListN.{length, getD};
@@ -29,7 +30,7 @@ ghost use Rattle.lists.specs.declared.Trip.the-variants.{Concentrate, Distribut
 ghost use Rattle.lists.specs.Lists.{totalMoves, runsOf};
 ghost use Rattle.refusals.specs.Cases.{badIn, aimsCase, cutCase, laneCases};
 ghost use Rattle.refusals.specs.Cuts.{firstRuns};
-ghost use Rattle.refusals.specs.Inside.{earlyFull, earlyCut};
+ghost use Rattle.refusals.specs.Inside.{earlyFull, earlyCut, AllMarked, AllRising, LastInside, NoneBad};
 
 // What is known of a cell when its aim is judged: its index and rank, its mark and aim, and the aim before it.
 struct Judged {
@@ -85,8 +86,8 @@ fn bad(trip: Trip, side: usize, c: Judged) -> bool
     }
 }
 
-// The first cell whose aim is wrong, as a case.
-pub(crate) fn aims_case(trip: Trip, side: usize, marks: &[u8], aims: &[u16]) -> Case
+// The first cell whose aim is wrong, as a case: cell after cell.
+fn search_aims(trip: Trip, side: usize, marks: &[u8], aims: &[u16]) -> Case
     requires { ⌜ (length (now marks) ≡ length (now aims)) × (length (now marks) ≤ 4096) ⌝ }
     requires { ⌜ ((i : ℕ) → i < length (now marks) → getD (now marks) i 0 < 2) ⌝ }
     ensures { λ r. ⌜ r ≡ aimsCase trip side (old marks) (old aims) ⌝ }
@@ -111,6 +112,110 @@ pub(crate) fn aims_case(trip: Trip, side: usize, marks: &[u8], aims: &[u16]) -> 
         i += 1;
     }
     case_of(false, 6, n)
+}
+
+// These two take both of their tests as they are, so that a chain of them has no branch.
+fn both(a: bool, b: bool) -> bool
+    ensures { λ r. ⌜ r ≡ (a && b) ⌝ }
+{
+    if a { b } else { false }
+}
+
+fn either(a: bool, b: bool) -> bool
+    ensures { λ r. ⌜ r ≡ (a || b) ⌝ }
+{
+    if a { true } else { b }
+}
+
+// Every marked cell's aim is its rank. What is wrong is joined over all cells, so that no branch hangs on a mark.
+fn all_ranked(marks: &[u8], aims: &[u16]) -> bool
+    requires { ⌜ (length (now marks) ≡ length (now aims)) × (length (now marks) ≤ 4096) ⌝ }
+    requires { ⌜ ((i : ℕ) → i < length (now marks) → getD (now marks) i 0 < 2) ⌝ }
+    ensures { λ r. ⌜ NoneBad Concentrate 0 (old marks) (old aims) r ⌝ }
+{
+    let n = marks.len();
+    let mut off = false;
+    let mut rank: usize = 0;
+    let mut i: usize = 0;
+    while i < n {
+        off = either(both(marks[i] == 1, wide(aims[i]) != rank), off);
+        rank += marks[i] as usize;
+        i += 1;
+    }
+    !off
+}
+
+// The first cells, so many, are marked.
+fn all_marked(count: usize, marks: &[u8]) -> bool
+    requires { ⌜ count ≤ length (now marks) ⌝ }
+    ensures { λ r. ⌜ AllMarked count (old marks) r ⌝ }
+{
+    let mut off = false;
+    let mut i: usize = 0;
+    while i < count {
+        off = either(marks[i] != 1, off);
+        i += 1;
+    }
+    !off
+}
+
+// The aims of the first cells, so many, rise.
+fn all_rising(count: usize, aims: &[u16]) -> bool
+    requires { ⌜ count ≤ length (now aims) ⌝ }
+    ensures { λ r. ⌜ AllRising count (old aims) r ⌝ }
+{
+    let mut off = false;
+    let mut i: usize = 1;
+    while i < count {
+        off = either(aims[i] <= aims[i - 1], off);
+        i += 1;
+    }
+    !off
+}
+
+// The aim of the last of so many cells is on the board; where there is none, so is it.
+fn last_inside(side: usize, count: usize, aims: &[u16]) -> bool
+    requires { ⌜ count ≤ length (now aims) ⌝ }
+    ensures { λ r. ⌜ LastInside side count (old aims) r ⌝ }
+{
+    if count == 0 {
+        return true;
+    }
+    is_cell(side, wide(aims[count - 1]))
+}
+
+// As many first cells are marked as there are marks, and their aims rise and end on the board.
+fn all_aimed(side: usize, marks: &[u8], aims: &[u16]) -> bool
+    requires { ⌜ (length (now marks) ≡ length (now aims)) × (length (now marks) ≤ 4096) ⌝ }
+    requires { ⌜ ((i : ℕ) → i < length (now marks) → getD (now marks) i 0 < 2) ⌝ }
+    ensures { λ r. ⌜ NoneBad Distribute side (old marks) (old aims) r ⌝ }
+{
+    let count = count_marks(marks);
+    let rise = both(all_rising(count, aims), last_inside(side, count, aims));
+    both(all_marked(count, marks), rise)
+}
+
+fn all_good(trip: Trip, side: usize, marks: &[u8], aims: &[u16]) -> bool
+    requires { ⌜ (length (now marks) ≡ length (now aims)) × (length (now marks) ≤ 4096) ⌝ }
+    requires { ⌜ ((i : ℕ) → i < length (now marks) → getD (now marks) i 0 < 2) ⌝ }
+    ensures { λ r. ⌜ NoneBad trip side (old marks) (old aims) r ⌝ }
+{
+    match trip {
+        Trip::Concentrate => all_ranked(marks, aims),
+        Trip::Distribute => all_aimed(side, marks, aims),
+    }
+}
+
+// The first cell whose aim is wrong, as a case. It is looked for only where there is one.
+pub(crate) fn aims_case(trip: Trip, side: usize, marks: &[u8], aims: &[u16]) -> Case
+    requires { ⌜ (length (now marks) ≡ length (now aims)) × (length (now marks) ≤ 4096) ⌝ }
+    requires { ⌜ ((i : ℕ) → i < length (now marks) → getD (now marks) i 0 < 2) ⌝ }
+    ensures { λ r. ⌜ r ≡ aimsCase trip side (old marks) (old aims) ⌝ }
+{
+    if all_good(trip, side, marks, aims) {
+        return case_of(false, 6, marks.len());
+    }
+    search_aims(trip, side, marks, aims)
 }
 
 pub(crate) fn cut_case(side: usize, cut: usize) -> Case
@@ -155,17 +260,17 @@ pub(crate) fn early_full(
     refusing_lanes(side, marks.len(), aims, sizes, room)
 }
 
-// And of a cut run, whose moves are these.
+// And of a run that writes no log, whole or cut, before its accepted answer.
 pub(crate) fn early_cut(
     side: usize,
-    runs: [Run; 9],
     sizes: Sizes,
     marks: &[u8],
     aims: usize,
+    otherwise: Answer,
 ) -> Answer
-    ensures { λ r. ⌜ r ≡ verdict (earlyCut side sizes (old marks) aims) (acceptedBy runs) ⌝ }
+    ensures { λ r. ⌜ r ≡ verdict (earlyCut side sizes (old marks) aims) otherwise ⌝ }
 {
-    let good = refusing(marks_case(marks), accepted_by(runs));
+    let good = refusing(marks_case(marks), otherwise);
     refusing_lanes(side, marks.len(), aims, sizes, good)
 }
 

@@ -7,12 +7,14 @@ use crate::judging::early_cut;
 use crate::judging::early_full;
 use crate::judging::first_runs;
 use answers::Answer;
+use answers::accepted;
+use answers::accepted_by;
 use answers::refusing;
 use lists::Trip;
 use lists::runs_of;
 ghost use mathlib.Core.Path.{_≡_};
 ghost use Rattle.laws.specs.Lent.{old};
-ghost use Rattle.answers.specs.Answers.{verdict, acceptedBy};
+ghost use Rattle.answers.specs.Answers.{accepted as acceptedOf, acceptedBy, verdict, withoutLogs};
 ghost use Rattle.lists.specs.Lists.{runsOf};
 ghost use Rattle.refusals.specs.Cases.{fullCases, cutCases};
 ghost use Rattle.refusals.specs.Cuts.{firstRuns};
@@ -56,11 +58,30 @@ pub fn judge_cut(
     ensures { λ r. ⌜ r ≡ verdict (cutCases trip side cut sizes (old marks) (old aims)) (acceptedBy (firstRuns cut (runsOf trip side))) ⌝ }
 {
     let runs = first_runs(runs_of(trip, side), cut);
-    let early = early_cut(side, runs, sizes, marks, aims.len());
+    let early = early_cut(side, sizes, marks, aims.len(), accepted_by(runs));
     if early.number != 0 {
         return early;
     }
     let aimed = aims_case(trip, side, marks, aims);
     let beyond = cut_case(side, cut);
     refusing(aimed, refusing(beyond, early))
+}
+
+// The answer of a full run that writes no log and whose moves are so many.
+pub fn judge_unlogged(
+    trip: Trip,
+    side: usize,
+    sizes: Sizes,
+    marks: &[u8],
+    aims: &[u16],
+    electronic: usize,
+    swaps: usize,
+) -> Answer
+    ensures { λ r. ⌜ r ≡ verdict (withoutLogs (fullCases trip side sizes (old marks) (old aims) 0 0)) (acceptedOf electronic swaps) ⌝ }
+{
+    let early = early_cut(side, sizes, marks, aims.len(), accepted(electronic, swaps));
+    if early.number != 0 {
+        return early;
+    }
+    refusing(aims_case(trip, side, marks, aims), early)
 }

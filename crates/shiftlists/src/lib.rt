@@ -1,4 +1,6 @@
 // The move lists of the eight shifts.
+use answers::Case;
+use answers::case_of;
 use array::moves::Move;
 use array::moves::Way;
 use array::moves::opposite;
@@ -7,6 +9,7 @@ use runs::no_runs;
 ghost use mathlib.Core.Path.{_≡_};
 ghost use Prim.Native.Nat.{_≤_};
 ghost use Rattle.runs.specs.Runs.{along as alongOf, swapping as swappingOf};
+ghost use Rattle.shiftlists.specs.Cases.{distanceCase};
 ghost use Rattle.shiftlists.specs.Shifts.{distanceOf, within, modulo as moduloOf, forthMoves, backMoves, forthWay, swapsOf, shiftList, shiftRuns};
 
 // What a shift changes: the column or the row of a cell's place, or of its group.
@@ -48,6 +51,12 @@ pub fn is_within(side: usize, k: Distance) -> bool
     ensures { λ r. ⌜ r ≡ within side k ⌝ }
 {
     k.forth < side && k.back < side
+}
+
+pub fn distance_case(side: usize, k: i32) -> Case
+    ensures { λ r. ⌜ r ≡ distanceCase side k ⌝ }
+{
+    case_of(!is_within(side, distance_of(k)), 4, 0)
 }
 
 fn modulo(side: usize, k: Distance) -> usize

@@ -1,7 +1,6 @@
 -- What each entry answers and leaves, for every input.
 use Prim.Native.Nat.{ℕ}
 use mathlib.Core.Path.{_≡_}
-use mathlib.Core.Bool.{not}
 use mathlib.Core.List.{List, [], _∷_}
 use lib.IntN.{ℤ}
 use lib.ListN.{length}
@@ -11,21 +10,14 @@ use Rattle.answers.specs.declared.Case.{Case}
 use Rattle.runs.specs.declared.Run.{Run}
 use Rattle.shiftlists.specs.declared.Axis.{Axis}
 use Rattle.shiftlists.specs.declared.Edge.{Edge}
-use Rattle.array.specs.Cells.{isCell}
 use Rattle.lists.specs.Lists.{broadcastRuns, dataSumRuns, prefixSumRuns}
-use Rattle.shiftlists.specs.Shifts.{distanceOf, within, shiftRuns}
-use Rattle.answers.specs.Answers.{caseOf, sideCase, laneCase, logCase}
+use Rattle.shiftlists.specs.Cases.{distanceCase}
+use Rattle.shiftlists.specs.Shifts.{shiftRuns}
+use Rattle.answers.specs.Answers.{sideCase, laneCase, logCase, cellCase}
 use Rattle.answers.specs.Entry.{Entry, CodesLogged}
 use Rattle.spreads.specs.Results.{broadcastWords, dataSumWords}
 use Rattle.prefix.specs.Results.{prefixSumWords}
 use Rattle.shifts.specs.Results.{shiftWords}
-
--- 4: there is no such cell; the distance is not within the side
-abbrev pub cellCase : ℕ → ℕ → Case
-cellCase s i = caseOf (not (isCell s i)) 4 0
-
-abbrev pub distanceCase : ℕ → ℤ → Case
-distanceCase s k = caseOf (not (within s (distanceOf k))) 4 0
 
 -- the tables of cases, by side, argument, the length of the lane and that of the log: of broadcast, 1, 2, 3, 4
 abbrev pub broadcastCases : ℕ → ℕ → ℕ → ℕ → List Case

@@ -1,36 +1,21 @@
 // How the entries on words answer: the cases of each in the order of their numbers.
 use answers::Answer;
-use answers::Case;
 use answers::accepted_by;
-use answers::case_of;
+use answers::cell_case;
 use answers::log_case;
 use answers::refusing;
 use answers::refusing_lane;
-use array::cells::is_cell;
 use lists::broadcast_runs;
 use runs::Run;
 use shiftlists::Axis;
 use shiftlists::Edge;
-use shiftlists::distance_of;
-use shiftlists::is_within;
+use shiftlists::distance_case;
 use shiftlists::shift_runs;
 ghost use mathlib.Core.Path.{_≡_};
 ghost use Rattle.lists.specs.Lists.{broadcastRuns};
 ghost use Rattle.shiftlists.specs.Shifts.{shiftRuns};
 ghost use Rattle.answers.specs.Answers.{verdict, acceptedBy};
-ghost use Rattle.words.specs.Entries.{cellCase, distanceCase, broadcastCases, sumCases, shiftCases};
-
-fn cell_case(side: usize, cell: usize) -> Case
-    ensures { λ r. ⌜ r ≡ cellCase side cell ⌝ }
-{
-    case_of(!is_cell(side, cell), 4, 0)
-}
-
-fn distance_case(side: usize, k: i32) -> Case
-    ensures { λ r. ⌜ r ≡ distanceCase side k ⌝ }
-{
-    case_of(!is_within(side, distance_of(k)), 4, 0)
-}
+ghost use Rattle.words.specs.Entries.{broadcastCases, sumCases, shiftCases};
 
 pub(crate) fn judge_broadcast(side: usize, cell: usize, length: usize, log: usize) -> Answer
     ensures { λ r. ⌜ r ≡ verdict (broadcastCases side cell length log) (acceptedBy (broadcastRuns side cell)) ⌝ }

@@ -1,9 +1,8 @@
 -- `refusals::judge_cut` meets its contract: in two steps, and only the second looks at the aims (Verdicting).
 use mathlib.Core.Path.{refl, ap, _∙_}
-use mathlib.Core.List.{List, [], _∷_}
+use mathlib.Core.List.{[], _∷_}
 use lib.ListN.{length}
 use Rattle.lists.specs.Lists.{runsOf}
-use Rattle.runs.specs.declared.Run.{Run}
 use Rattle.answers.specs.Answers.{acceptedBy, verdict}
 use Rattle.answers.proofs.Verdicts.{case-before, at-once, none-yet, still-accepted, later}
 use Rattle.refusals.specs.Cases.{aimsCase, cutCase}
@@ -20,31 +19,34 @@ runs-of-requires c κs = search needs
 first-runs-requires : tie.Need-first-runs-requires
 first-runs-requires c κs = search needs
 
+accepted-by-requires : tie.Need-accepted-by-requires
+accepted-by-requires c κs = search needs
+
 early-cut-requires : tie.Need-early-cut-requires
 early-cut-requires c κs = search needs
 
 returns : tie.Need-returns
 returns c =
     let f = c .before .before in
-    let a = f .before .before .before .before .before .args in
+    let a = f .before .before .before .before .before .before .args in
     let marks = a .marks .now in
     let aims = a .aims .now in
     let early = earlyCut (a .side) (a .sizes) marks (length aims) in
     let end = acceptedBy (firstRuns (a .cut) (runsOf (a .trip) (a .side))) in
-    let listed = f .before .first-runs .ensures ∙ ap (firstRuns (a .cut)) (f .before .before .runs-of .ensures) in
-    let e = f .early-cut .ensures ∙ ap (λ (rs : List Run). verdict early (acceptedBy rs)) listed in
+    let listed = f .before .before .first-runs .ensures ∙ ap (firstRuns (a .cut)) (f .before .before .before .runs-of .ensures) in
+    let e = f .early-cut .ensures ∙ ap (verdict early) (f .before .accepted-by .ensures ∙ ap acceptedBy listed) in
     at-once early (aimsCase (a .trip) (a .side) marks aims ∷ cutCase (a .side) (a .cut) ∷ []) end end e refl (c .if1 .taken)
 
 aims-case-requires : tie.Need-aims-case-requires
 aims-case-requires c κs =
     let f = c .before .before in
-    let a = f .before .before .before .before .before .args in
+    let a = f .before .before .before .before .before .before .args in
     let marks = a .marks .now in
     let aims = a .aims .now in
     let early = earlyCut (a .side) (a .sizes) marks (length aims) in
     let end = acceptedBy (firstRuns (a .cut) (runsOf (a .trip) (a .side))) in
-    let listed = f .before .first-runs .ensures ∙ ap (firstRuns (a .cut)) (f .before .before .runs-of .ensures) in
-    let e = f .early-cut .ensures ∙ ap (λ (rs : List Run). verdict early (acceptedBy rs)) listed in
+    let listed = f .before .before .first-runs .ensures ∙ ap (firstRuns (a .cut)) (f .before .before .before .runs-of .ensures) in
+    let e = f .early-cut .ensures ∙ ap (verdict early) (f .before .accepted-by .ensures ∙ ap acceptedBy listed) in
     let h = cut-halfway (a .side) (a .sizes) marks aims (none-yet early [] end end e refl (c .if1 .left)) in
     (h .lengths, h .good)
 
@@ -60,13 +62,13 @@ refusing-requires-2 c κs = search needs
 returns-2 : tie.Need-returns-2
 returns-2 c =
     let f = c .before .before .before .before .before .before in
-    let a = f .before .before .before .before .before .args in
+    let a = f .before .before .before .before .before .before .args in
     let marks = a .marks .now in
     let aims = a .aims .now in
     let early = earlyCut (a .side) (a .sizes) marks (length aims) in
     let end = acceptedBy (firstRuns (a .cut) (runsOf (a .trip) (a .side))) in
-    let listed = f .before .first-runs .ensures ∙ ap (firstRuns (a .cut)) (f .before .before .runs-of .ensures) in
-    let e = f .early-cut .ensures ∙ ap (λ (rs : List Run). verdict early (acceptedBy rs)) listed in
+    let listed = f .before .before .first-runs .ensures ∙ ap (firstRuns (a .cut)) (f .before .before .before .runs-of .ensures) in
+    let e = f .early-cut .ensures ∙ ap (verdict early) (f .before .accepted-by .ensures ∙ ap acceptedBy listed) in
     let rest = aimsCase (a .trip) (a .side) marks aims ∷ cutCase (a .side) (a .cut) ∷ [] in
     let k = c .before .before in
     let z = k .before .before .if1 .left in
@@ -79,6 +81,7 @@ judge-cut-spec =
     (tie.spec
     runs-of-requires
     first-runs-requires
+    accepted-by-requires
     early-cut-requires
     returns
     aims-case-requires

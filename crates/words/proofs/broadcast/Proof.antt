@@ -7,7 +7,7 @@ use borrow.Author.Tests.{not-false}
 use Rattle.array.specs.Cells.{isCell}
 use Rattle.lists.specs.Lists.{broadcastRuns}
 use Rattle.spreads.specs.Results.{broadcastWords}
-use Rattle.words.specs.Entries.{cellCase}
+use Rattle.answers.specs.Answers.{cellCase}
 use borrow.Author.Needs.{needs}
 use Rattle.words.proofs.broadcast.Statement.{statement}
 use Rattle.words.proofs.broadcast.Tie as tie

@@ -4,9 +4,9 @@ use Rattle.answers.proofs.Entering.{entry-refused}
 use Rattle.words.proofs.Entering.{on-words}
 use mathlib.Core.List.{[], _∷_}
 use borrow.Author.Tests.{not-false}
+use Rattle.shiftlists.specs.Cases.{distanceCase}
 use Rattle.shiftlists.specs.Shifts.{distanceOf, within, shiftRuns}
 use Rattle.shifts.specs.Results.{shiftWords}
-use Rattle.words.specs.Entries.{distanceCase}
 use mir.Syntax.{w32}
 use mir.ValLaws.{toZ-ofZ}
 use borrow.Author.Needs.{needs}

@@ -1,9 +1,9 @@
--- `words::judging::distance_case` meets its contract: the test is that of the array, on the distance as the machine reads it.
+-- `shiftlists::distance_case` meets its contract: the test is that of the array, on the distance as the machine reads it.
 use mir.Syntax.{w32}
 use mir.ValLaws.{toZ-ofZ}
 use borrow.Author.Needs.{needs}
-use Rattle.words.proofs.judging.distance_case.Statement.{statement}
-use Rattle.words.proofs.judging.distance_case.Tie as tie
+use Rattle.shiftlists.proofs.distance_case.Statement.{statement}
+use Rattle.shiftlists.proofs.distance_case.Tie as tie
 
 distance-of-requires : tie.Need-distance-of-requires
 distance-of-requires c κs = search needs

@@ -1,7 +1,7 @@
--- `words::judging::cell_case` meets its contract: the test is that of the array.
+-- `answers::cell_case` meets its contract: the test is that of the array.
 use borrow.Author.Needs.{needs}
-use Rattle.words.proofs.judging.cell_case.Statement.{statement}
-use Rattle.words.proofs.judging.cell_case.Tie as tie
+use Rattle.answers.proofs.cell_case.Statement.{statement}
+use Rattle.answers.proofs.cell_case.Tie as tie
 
 is-cell-requires : tie.Need-is-cell-requires
 is-cell-requires c κs = search needs
