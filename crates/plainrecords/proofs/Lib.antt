@@ -1,0 +1,9 @@
+pub mod Answering
+pub mod Arranging
+pub mod Counted
+pub mod Ending
+pub mod Gathering
+pub mod Landing
+pub mod Order
+pub mod Parts
+pub mod Scattering
