@@ -5,8 +5,15 @@
  * This file is for C99 and later, and for C++.
  *
  * START HERE. Compare otis_version() with OTIS_VERSION. Put the arrays into struct otis_front, otis_spare and otis_log, and
- * call otis_rank_board, otis_concentrate_board and otis_distribute_board. Look at the answer's number: 0 is accepted.
- * bench/c/frame.c does all of it. docs/MODEL.md tells of the board and its moves.
+ * call otis_rank_board, otis_concentrate_board and otis_distribute_board, or the plain three (otis_plain_rank_board and so
+ * on). Look at the answer's number: 0 is accepted. bench/c/frame.c does all of it. docs/MODEL.md tells of the board and its
+ * moves.
+ *
+ * TWO ENGINES. Each operation is there twice, with the same table and the same answer at the end.
+ *     stepping    otis_rank, otis_concentrate, otis_distribute make every move of the board and write the move list: for who
+ *                 wants the list, which is loaded into the board's sequencer.
+ *     plain       otis_plain_rank, otis_plain_concentrate, otis_plain_distribute give the final table at once, make no moves
+ *                 and take no log: for who wants the table alone.
  *
  * THE BOARD. Side s has s * s groups of s * s cells, s * s * s * s cells in all (OTIS_CELLS). Cell P of group G has the
  * index G * s * s + P, and place P lies at row P / s, column P % s.
@@ -16,9 +23,10 @@
  *     marks       0 or 1: whether the cell holds a record
  *     aims        a cell number: where the record goes
  *     spare_*     the same three for a cell's second record during a run. Whatever they hold before a call is never looked
- *                 at; after an accepted call they hold 0 in every entry.
+ *                 at; after an accepted call they hold 0 in every entry. The plain functions take them as well.
  *
- * LOGS. A log has one entry for each move, OTIS_MOVES(s) of them. It may be longer; its tail then stays as it was.
+ * LOGS, of the stepping functions alone. A log has one entry for each move, OTIS_MOVES(s) of them. It may be longer; its tail
+ * then stays as it was.
  *     codes       the move: OTIS_SWAP, OTIS_RIGHT, OTIS_LEFT, OTIS_UP or OTIS_DOWN
  *     moved       how many records changed cell in the move
  *
@@ -26,14 +34,14 @@
  * the call; nothing is kept. A pointer may be null only where its length is 0. No two arrays of one call may overlap, and
  * nobody else may write them (or read those that the call writes) until it returns.
  *
- * ANSWERS. An accepted call has number 0, place 0 and the numbers of electronic moves and of swaps made: 7 * (s - 1) and 2.
- * A refused call has its number and place, and both counts 0. A REFUSAL CHANGES NOTHING in any array. Where more than one
- * applies, the lowest number is given:
+ * ANSWERS. An accepted call has number 0, place 0 and the numbers of electronic moves and of swaps on the operation's move
+ * list, made or not: 7 * (s - 1) and 2. A refused call has its number and place, and both counts 0. A REFUSAL CHANGES NOTHING
+ * in any array. Where more than one applies, the lowest number is given:
  *
  *     number               given exactly when                                              place
  *     OTIS_BAD_SIDE    1   side is not 1 to 8                                              0
  *     OTIS_BAD_LANE    2   a lane, front or spare, is not exactly OTIS_CELLS(side) long    0
- *     OTIS_SHORT_LOG   3   a log is shorter than OTIS_MOVES(side)                          0
+ *     OTIS_SHORT_LOG   3   a log is shorter than OTIS_MOVES(side) (the plain ones never)   0
  *     OTIS_BAD_MARK    5   an entry of marks is neither 0 nor 1                            first such cell
  *     OTIS_BAD_AIM     6   the aims do not fit: see each function (rank never)             first such cell
  *
@@ -55,9 +63,9 @@
 extern "C" {
 #endif
 
-/* The version of this file: another number means other parameters or another answer. No linker notices such a change, so
- * compare it with otis_version(), which is the archive's own, before any other call. */
-#define OTIS_VERSION 1
+/* The version of this file: another number means other functions, other parameters or another answer. No linker notices a
+ * change of the last two, so compare it with otis_version(), which is the archive's own, before any other call. */
+#define OTIS_VERSION 2
 uint32_t otis_version(void);
 
 /* How many cells a board of that side has: the length of every lane. Only for sides 1 to 8. */
@@ -71,10 +79,12 @@ uint32_t otis_version(void);
 #define OTIS_MAX_MOVES 51
 
 /* How many bytes of stack a call takes at most, at any side: for the size of a thread's stack. Measured by painting the stack
- * (bench/c/stack.c): rank takes some 91,000, the other two some 10,000. The tests hold the archive to these numbers. */
+ * (bench/c/stack.c): rank takes some 91,000, concentrate and distribute some 10,000. The last number is for each of the plain
+ * functions, which keep no table. The tests hold the archive to these numbers. */
 #define OTIS_RANK_STACK 98304
 #define OTIS_CONCENTRATE_STACK 16384
 #define OTIS_DISTRIBUTE_STACK 16384
+#define OTIS_PLAIN_STACK 1024
 
 /* The entries of codes. */
 enum otis_code {
@@ -98,8 +108,8 @@ enum otis_number {
 struct otis_answer {
     size_t number;     /* 0, or the number of the refusal */
     size_t place;      /* the cell that a refusal names, else 0 */
-    size_t electronic; /* electronic moves made */
-    size_t swaps;      /* swaps made */
+    size_t electronic; /* electronic moves on the list */
+    size_t swaps;      /* swaps on the list */
 };
 
 /* Ranks the marked cells.
@@ -163,7 +173,36 @@ struct otis_answer otis_distribute(
     uint8_t *codes, size_t codes_length,
     uint16_t *moved, size_t moved_length);
 
-/* The same three functions over arrays put together by name, so that no two of them can be exchanged unseen: front and spare
+/* The plain functions. Each takes the lanes of the stepping function of its name and no log. The answer and all lanes
+ * afterwards, spare ones too, are what that function gives where its logs are long enough: so refusal 3 never comes. */
+
+/* The final table of otis_rank. Refusals: 1, 2, 5. */
+struct otis_answer otis_plain_rank(
+    size_t side,
+    const uint8_t *marks, size_t marks_length,
+    uint16_t *aims, size_t aims_length);
+
+/* The final table of otis_concentrate. Refusals: 1, 2, 5, 6. */
+struct otis_answer otis_plain_concentrate(
+    size_t side,
+    uint32_t *words, size_t words_length,
+    uint8_t *marks, size_t marks_length,
+    uint16_t *aims, size_t aims_length,
+    uint32_t *spare_words, size_t spare_words_length,
+    uint8_t *spare_marks, size_t spare_marks_length,
+    uint16_t *spare_aims, size_t spare_aims_length);
+
+/* The final table of otis_distribute. Refusals: 1, 2, 5, 6. */
+struct otis_answer otis_plain_distribute(
+    size_t side,
+    uint32_t *words, size_t words_length,
+    uint8_t *marks, size_t marks_length,
+    uint16_t *aims, size_t aims_length,
+    uint32_t *spare_words, size_t spare_words_length,
+    uint8_t *spare_marks, size_t spare_marks_length,
+    uint16_t *spare_aims, size_t spare_aims_length);
+
+/* The same six functions over arrays put together by name, so that no two of them can be exchanged unseen: front and spare
  * lanes have types of their own. Lengths, refusals and results are those of the functions above. */
 
 /* The records, and during a run the front one of each cell: each array has so many cells. */
@@ -209,6 +248,28 @@ static inline struct otis_answer otis_distribute_board(
     return otis_distribute(
         side, front.words, front.cells, front.marks, front.cells, front.aims, front.cells, spare.words, spare.cells,
         spare.marks, spare.cells, spare.aims, spare.cells, log.codes, log.moves, log.moved, log.moves);
+}
+
+/* Reads front.marks; writes front.aims and nothing else: front.words may be null. */
+static inline struct otis_answer otis_plain_rank_board(size_t side, struct otis_front front)
+{
+    return otis_plain_rank(side, front.marks, front.cells, front.aims, front.cells);
+}
+
+static inline struct otis_answer otis_plain_concentrate_board(
+    size_t side, struct otis_front front, struct otis_spare spare)
+{
+    return otis_plain_concentrate(
+        side, front.words, front.cells, front.marks, front.cells, front.aims, front.cells, spare.words, spare.cells,
+        spare.marks, spare.cells, spare.aims, spare.cells);
+}
+
+static inline struct otis_answer otis_plain_distribute_board(
+    size_t side, struct otis_front front, struct otis_spare spare)
+{
+    return otis_plain_distribute(
+        side, front.words, front.cells, front.marks, front.cells, front.aims, front.cells, spare.words, spare.cells,
+        spare.marks, spare.cells, spare.aims, spare.cells);
 }
 
 #ifdef __cplusplus

@@ -1,8 +1,12 @@
-// Each entry is called here and nowhere else; its run is printed: what is called, its answer, and what it leaves.
+// Each stepping entry is called here and nowhere else; its run is printed: what is called, its answer, and what it leaves. The plain entry is run
+// behind it on the same lanes.
 use crate::frames::lane_cells;
 use crate::frames::lane_within;
 use crate::names::operation_name;
 use crate::names::run_name;
+use crate::plainly::plain_rank;
+use crate::plainly::plain_records;
+use crate::plainly::plain_words;
 use crate::show;
 use crate::show::text;
 use crate::show::value;
@@ -71,7 +75,7 @@ fn on_records(
 }
 
 // A run on the lanes of a board, with spare lanes of 7s, and logs of 9s that are lent so far.
-pub(crate) fn records_run(
+fn step_records(
     run: RecordsRun,
     side: usize,
     log: usize,
@@ -106,8 +110,23 @@ pub(crate) fn records_run(
     show::logs(m, codes, moved);
 }
 
+// A run up to a cut has no plain form.
+pub(crate) fn records_run(
+    run: RecordsRun,
+    side: usize,
+    log: usize,
+    words: [u32; 4096],
+    marks: [u8; 4096],
+    aims: [u16; 4096],
+) {
+    step_records(run, side, log, words, marks, aims);
+    if let RecordsRun::Whole(trip) = run {
+        plain_records(trip, side, words, marks, aims);
+    }
+}
+
 // Rank on the marks of a board, with a log of 9s: gives the aims as well.
-pub(crate) fn rank_run(side: usize, log: usize, marks: [u8; 4096]) -> [u16; 4096] {
+fn step_rank(side: usize, log: usize, marks: [u8; 4096]) -> [u16; 4096] {
     let n = lane_cells(side);
     let m = lane_within(log);
     let mut aims = [9u16; 4096];
@@ -120,14 +139,14 @@ pub(crate) fn rank_run(side: usize, log: usize, marks: [u8; 4096]) -> [u16; 4096
     aims
 }
 
+pub(crate) fn rank_run(side: usize, log: usize, marks: [u8; 4096]) -> [u16; 4096] {
+    let aims = step_rank(side, log, marks);
+    plain_rank(side, marks);
+    aims
+}
+
 // An operation on the first words of a lane, with a log of 9s.
-pub(crate) fn words_run(
-    operation: Operation,
-    side: usize,
-    lane: usize,
-    log: usize,
-    mut words: [u32; 4096],
-) {
+fn step_words(operation: Operation, side: usize, lane: usize, log: usize, mut words: [u32; 4096]) {
     let n = lane_within(lane);
     let m = lane_within(log);
     let mut codes = [9u8; 4096];
@@ -136,6 +155,17 @@ pub(crate) fn words_run(
     show::answer(on_words(operation, side, &mut words[..n], &mut codes[..m]));
     show::codes(m, codes);
     show::words(n, words);
+}
+
+pub(crate) fn words_run(
+    operation: Operation,
+    side: usize,
+    lane: usize,
+    log: usize,
+    words: [u32; 4096],
+) {
+    step_words(operation, side, lane, log, words);
+    plain_words(operation, side, lane, words);
 }
 
 // The stretch of a group as it is handed back, and all words.

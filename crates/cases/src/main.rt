@@ -4,6 +4,7 @@ mod frames;
 mod names;
 mod on_records;
 mod on_words;
+mod plainly;
 mod show;
 
 fn main() {

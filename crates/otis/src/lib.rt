@@ -8,13 +8,14 @@ ghost use mathlib.Core.Path.{_≡_};
 ghost use Rattle.lists.specs.declared.Trip.the-variants.{Concentrate, Distribute};
 ghost use Rattle.ranking.specs.Entries.{Ranked};
 ghost use Rattle.records.specs.Entries.{FullRun};
+ghost use Rattle.plainrecords.specs.Entries.{PlainRank, PlainRun};
 
 // The version of what C sees here. It is raised, with OTIS_VERSION in the header, whenever a parameter or the answer changes.
 #[no_mangle]
 pub extern "C" fn otis_version() -> u32
-    ensures { λ r. ⌜ r ≡ 1 ⌝ }
+    ensures { λ r. ⌜ r ≡ 2 ⌝ }
 {
-    1
+    2
 }
 
 #[no_mangle]
@@ -75,5 +76,59 @@ pub extern "C" fn otis_distribute(
         spare_aims,
         codes,
         moved,
+    )
+}
+
+// The final table at once, without moves and without logs.
+#[no_mangle]
+pub extern "C" fn otis_plain_rank(side: usize, marks: &[u8], aims: &mut [u16]) -> Answer
+    ensures { λ r. ⌜ PlainRank side marks aims r ⌝ }
+{
+    plainrecords::rank(side, marks, aims)
+}
+
+#[no_mangle]
+pub extern "C" fn otis_plain_concentrate(
+    side: usize,
+    words: &mut [u32],
+    marks: &mut [u8],
+    aims: &mut [u16],
+    spare_words: &mut [u32],
+    spare_marks: &mut [u8],
+    spare_aims: &mut [u16],
+) -> Answer
+    ensures { λ r. ⌜ PlainRun Concentrate side words marks aims «spare_words» «spare_marks» «spare_aims» r ⌝ }
+{
+    plainrecords::concentrate(
+        side,
+        words,
+        marks,
+        aims,
+        spare_words,
+        spare_marks,
+        spare_aims,
+    )
+}
+
+#[no_mangle]
+pub extern "C" fn otis_plain_distribute(
+    side: usize,
+    words: &mut [u32],
+    marks: &mut [u8],
+    aims: &mut [u16],
+    spare_words: &mut [u32],
+    spare_marks: &mut [u8],
+    spare_aims: &mut [u16],
+) -> Answer
+    ensures { λ r. ⌜ PlainRun Distribute side words marks aims «spare_words» «spare_marks» «spare_aims» r ⌝ }
+{
+    plainrecords::distribute(
+        side,
+        words,
+        marks,
+        aims,
+        spare_words,
+        spare_marks,
+        spare_aims,
     )
 }

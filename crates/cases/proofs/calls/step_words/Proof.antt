@@ -1,9 +1,9 @@
--- `cases::calls::words_run` is safe and ends.
+-- `cases::calls::step_words` is safe and ends.
 use mathlib.Core.Path.{sym}
 use lib.Seq.{length-take-le}
 use borrow.Author.Needs.{needs}
-use Rattle.cases.proofs.calls.words_run.Statement.{statement}
-use Rattle.cases.proofs.calls.words_run.Tie as tie
+use Rattle.cases.proofs.calls.step_words.Statement.{statement}
+use Rattle.cases.proofs.calls.step_words.Tie as tie
 
 lane-within-requires : tie.Need-lane-within-requires
 lane-within-requires c κs = search needs
@@ -44,8 +44,8 @@ words-requires c κs = search needs
 returns : tie.Need-returns
 returns c = search needs
 
-pub words-run-spec : {M : Type 1} → statement M
-words-run-spec =
+pub step-words-spec : {M : Type 1} → statement M
+step-words-spec =
     tie.close
     (tie.spec
     lane-within-requires

@@ -1,9 +1,9 @@
--- `cases::calls::records_run` is safe: a board has at most 4,096 cells, and no log more entries.
+-- `cases::calls::step_records` is safe: a board has at most 4,096 cells, and no log more entries.
 use mathlib.Core.Path.{sym}
 use lib.Seq.{length-take-le}
 use borrow.Author.Needs.{needs}
-use Rattle.cases.proofs.calls.records_run.Statement.{statement}
-use Rattle.cases.proofs.calls.records_run.Tie as tie
+use Rattle.cases.proofs.calls.step_records.Statement.{statement}
+use Rattle.cases.proofs.calls.step_records.Tie as tie
 
 lane-cells-requires : tie.Need-lane-cells-requires
 lane-cells-requires c κs = search needs
@@ -89,8 +89,8 @@ logs-requires c κs = search needs
 returns : tie.Need-returns
 returns c = search needs
 
-pub records-run-spec : {M : Type 1} → statement M
-records-run-spec =
+pub step-records-spec : {M : Type 1} → statement M
+step-records-spec =
     tie.close
     (tie.spec
     lane-cells-requires
