@@ -1,11 +1,13 @@
 /* A frame of the line camera, as bench software treats it: rank the marked cells, concentrate them, print the front,
- * distribute them back, and compare with what the camera gave. A refusal ends it, with a line that says which.
+ * distribute them back, and compare with what the camera gave. Each time the plain function, which makes no moves, is asked
+ * for the same frame. A refusal ends it, with a line that says which.
  *
  *     make lib
  *     gcc -O2 -Iinclude bench/c/frame.c target/lib/libotis.a -o frame && ./frame
  *
  * Its expected output, frame.stdout, is worked out by hand from the scope: the frame is that of its example job, so both
- * columns of moved counts stand there, and so does what a damaged mark is answered. */
+ * columns of moved counts stand there, and so does what a damaged mark is answered. The plain functions have to give the
+ * same counts, the same frames and the same refusal. */
 #include "otis.h"
 
 #include <stdio.h>
@@ -76,6 +78,24 @@ static struct otis_answer distribute(struct frame *frame, struct log *log)
     return otis_distribute_board(SIDE, front_of(frame), spare_of(&spare), log_of(log));
 }
 
+/* The same for a host that wants the frame and not the moves: no log is lent. */
+static struct otis_answer plain_rank(struct frame *frame)
+{
+    return otis_plain_rank_board(SIDE, front_of(frame));
+}
+
+static struct otis_answer plain_concentrate(struct frame *frame)
+{
+    struct frame spare;
+    return otis_plain_concentrate_board(SIDE, front_of(frame), spare_of(&spare));
+}
+
+static struct otis_answer plain_distribute(struct frame *frame)
+{
+    struct frame spare;
+    return otis_plain_distribute_board(SIDE, front_of(frame), spare_of(&spare));
+}
+
 static void print_answer(const char *name, struct otis_answer answer)
 {
     if (answer.number != OTIS_ACCEPTED)
@@ -116,6 +136,24 @@ static void print_marked(const struct frame *frame)
             printf("  cell %zu: word %u, aim %u\n", cell, (unsigned)frame->words[cell], (unsigned)frame->aims[cell]);
 }
 
+static int is_same(const struct frame *one, const struct frame *other)
+{
+    return memcmp(one->words, other->words, sizeof one->words) == 0
+        && memcmp(one->marks, other->marks, sizeof one->marks) == 0
+        && memcmp(one->aims, other->aims, sizeof one->aims) == 0;
+}
+
+/* Whether a plain function makes of the frame before what the moves made of it. */
+static int at_once(
+    const char *name, struct otis_answer (*plain)(struct frame *), struct frame before, const struct frame *after)
+{
+    int same;
+    must_accept(name, plain(&before));
+    same = is_same(&before, after);
+    printf("  same: %s\n", same ? "yes" : "no");
+    return same;
+}
+
 /* Which cells were marked, rank by rank: where distribute has to take the records back to. */
 static void aim_back(const struct frame *camera, struct frame *front)
 {
@@ -138,36 +176,43 @@ static int is_back(const struct frame *camera, const struct frame *frame)
 /* A broken camera is told by the cell, and the frame stays as it was. */
 static int try_damaged(const struct frame *camera)
 {
-    struct frame frame = *camera;
+    struct frame damaged = *camera, frame;
     struct log log;
-    struct otis_answer answer;
-    frame.marks[6] = 3;
+    struct otis_answer answer, plain;
+    damaged.marks[6] = 3;
+    frame = damaged;
     answer = concentrate(&frame, &log);
     print_answer("damaged", answer);
-    return answer.number == OTIS_BAD_MARK && frame.marks[6] == 3
-        && memcmp(frame.words, camera->words, sizeof frame.words) == 0;
+    plain = plain_concentrate(&frame);
+    print_answer("damaged, plain", plain);
+    return answer.number == OTIS_BAD_MARK && plain.number == OTIS_BAD_MARK && is_same(&frame, &damaged);
 }
 
 int main(void)
 {
-    struct frame camera, frame;
+    struct frame camera, before, frame;
     struct log log;
-    int back, kept;
+    int same, back, kept;
     must_be_one_version();
     read_camera(&camera);
+    before = camera;
     must_accept("rank", rank(&camera));
     print_marked(&camera);
+    same = at_once("plain rank", plain_rank, before, &camera);
     frame = camera;
     must_accept("concentrate", concentrate(&frame, &log));
     print_log(&log);
     print_marked(&frame);
+    same &= at_once("plain concentrate", plain_concentrate, camera, &frame);
     aim_back(&camera, &frame);
+    before = frame;
     must_accept("distribute", distribute(&frame, &log));
     print_log(&log);
     print_marked(&frame);
+    same &= at_once("plain distribute", plain_distribute, before, &frame);
     back = is_back(&camera, &frame);
     printf("back: %s\n", back ? "yes" : "no");
     kept = try_damaged(&camera);
     printf("kept: %s\n", kept ? "yes" : "no");
-    return back && kept ? 0 : 1;
+    return same && back && kept ? 0 : 1;
 }

@@ -1,5 +1,5 @@
 /* Calls the functions of otis.h for a program at the other end of its pipes, so that the archive, which is for x86-64, can be
- * tried from any machine. It is linked with the archive, or with the C stepper under the same names.
+ * tried from any machine. It is linked with the archive, or with C functions under the same names.
  *
  * A REQUEST is a row of numbers of 64 bits: the operation, the side, and the length of each slice in the order of otis.h. Then
  * come the slices, each whole: FENCE entries before it, its own, and FENCE behind it. AN ANSWER is the four numbers of the
@@ -16,7 +16,16 @@
 
 enum { FENCE = 16, MOST_SLICES = 8, BUFFER = 1 << 18 };
 
-enum operation { SEND = 0, RANK = 1, CONCENTRATE = 2, DISTRIBUTE = 3 };
+enum operation {
+    SEND = 0,
+    RANK = 1,
+    CONCENTRATE = 2,
+    DISTRIBUTE = 3,
+    PLAIN_RANK = 4,
+    PLAIN_CONCENTRATE = 5,
+    PLAIN_DISTRIBUTE = 6,
+    OPERATIONS
+};
 
 /* One slice of a call, in memory that is kept from request to request and grows as it has to. */
 struct slice {
@@ -90,6 +99,25 @@ static struct otis_answer distribute(size_t side, const struct slice s[])
         entries(&s[6]), s[6].length, entries(&s[7]), s[7].length);
 }
 
+static struct otis_answer plain_rank(size_t side, const struct slice s[])
+{
+    return otis_plain_rank(side, entries(&s[0]), s[0].length, entries(&s[1]), s[1].length);
+}
+
+static struct otis_answer plain_concentrate(size_t side, const struct slice s[])
+{
+    return otis_plain_concentrate(
+        side, entries(&s[0]), s[0].length, entries(&s[1]), s[1].length, entries(&s[2]), s[2].length,
+        entries(&s[3]), s[3].length, entries(&s[4]), s[4].length, entries(&s[5]), s[5].length);
+}
+
+static struct otis_answer plain_distribute(size_t side, const struct slice s[])
+{
+    return otis_plain_distribute(
+        side, entries(&s[0]), s[0].length, entries(&s[1]), s[1].length, entries(&s[2]), s[2].length,
+        entries(&s[3]), s[3].length, entries(&s[4]), s[4].length, entries(&s[5]), s[5].length);
+}
+
 /* What an operation is called by, and the bytes of an entry of each of its slices. */
 struct function {
     struct otis_answer (*call)(size_t side, const struct slice slices[]);
@@ -101,6 +129,9 @@ static const struct function functions[] = {
     [RANK] = {rank, 3, {1, 2, 1}},
     [CONCENTRATE] = {concentrate, 8, {4, 1, 2, 4, 1, 2, 1, 2}},
     [DISTRIBUTE] = {distribute, 8, {4, 1, 2, 4, 1, 2, 1, 2}},
+    [PLAIN_RANK] = {plain_rank, 2, {1, 2}},
+    [PLAIN_CONCENTRATE] = {plain_concentrate, 6, {4, 1, 2, 4, 1, 2}},
+    [PLAIN_DISTRIBUTE] = {plain_distribute, 6, {4, 1, 2, 4, 1, 2}},
 };
 
 static void give_answer(struct otis_answer answer)
@@ -133,7 +164,7 @@ int main(void)
     while (fread(&operation, sizeof operation, 1, stdin) == 1) {
         if (operation == SEND)
             fflush(stdout);
-        else if (operation <= DISTRIBUTE)
+        else if (operation < OPERATIONS)
             serve(&functions[operation]);
         else
             fail("there is no such operation");

@@ -69,6 +69,24 @@ static void call_distribute(void)
     answer = otis_distribute_board(side, front(), spare(), logs());
 }
 
+static void call_plain_rank(void)
+{
+    mark_by_steps();
+    answer = otis_plain_rank_board(side, front());
+}
+
+static void call_plain_concentrate(void)
+{
+    mark_by_steps();
+    answer = otis_plain_concentrate_board(side, front(), spare());
+}
+
+static void call_plain_distribute(void)
+{
+    mark_front();
+    answer = otis_plain_distribute_board(side, front(), spare());
+}
+
 /* How far below this function's own stack a call reaches. */
 __attribute__((noinline)) static size_t reach(void (*call)(void))
 {
@@ -100,10 +118,23 @@ static int keeps_to(const char *name, void (*call)(void), size_t said)
     return most <= said;
 }
 
+static const struct {
+    const char *name;
+    void (*call)(void);
+    size_t said;
+} functions[] = {
+    {"rank", call_rank, OTIS_RANK_STACK},
+    {"concentrate", call_concentrate, OTIS_CONCENTRATE_STACK},
+    {"distribute", call_distribute, OTIS_DISTRIBUTE_STACK},
+    {"plain rank", call_plain_rank, OTIS_PLAIN_STACK},
+    {"plain concentrate", call_plain_concentrate, OTIS_PLAIN_STACK},
+    {"plain distribute", call_plain_distribute, OTIS_PLAIN_STACK},
+};
+
 int main(void)
 {
-    int rank = keeps_to("rank", call_rank, OTIS_RANK_STACK);
-    int concentrate = keeps_to("concentrate", call_concentrate, OTIS_CONCENTRATE_STACK);
-    int distribute = keeps_to("distribute", call_distribute, OTIS_DISTRIBUTE_STACK);
-    return rank && concentrate && distribute ? 0 : 1;
+    int all = 1;
+    for (size_t at = 0; at < sizeof functions / sizeof *functions; at++)
+        all &= keeps_to(functions[at].name, functions[at].call, functions[at].said);
+    return all ? 0 : 1;
 }

@@ -1,4 +1,4 @@
-/* A plain C stepper of rank, concentrate and distribute: the same lanes and the same moves as the archive, written for
+/* An ordinary C stepper of rank, concentrate and distribute: the same lanes and the same moves as the archive, written for
  * speed in the ordinary way and proved by nobody; and a rank that makes no moves, beside which the moves' cost is seen. The
  * differential tests hold both to the second model. */
 #include "stepper.h"

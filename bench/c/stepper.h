@@ -1,4 +1,4 @@
-/* A plain C stepper of the same three operations, and a rank that makes no moves: what the archive is measured against.
+/* An ordinary C stepper of the same three operations, and a rank that makes no moves: what the archive is measured against.
  * Parameters as in otis.h. */
 #ifndef STEPPER_H
 #define STEPPER_H

@@ -8,6 +8,8 @@ use crate::model::records::{Lent, Operation};
 pub enum Function {
     Rank,
     Run(Operation),
+    PlainRank,
+    PlainRun(Operation),
 }
 
 impl Function {
@@ -17,6 +19,9 @@ impl Function {
             Function::Rank => 1,
             Function::Run(Operation::Concentrate) => 2,
             Function::Run(Operation::Distribute) => 3,
+            Function::PlainRank => 4,
+            Function::PlainRun(Operation::Concentrate) => 5,
+            Function::PlainRun(Operation::Distribute) => 6,
         }
     }
 }
@@ -32,27 +37,34 @@ pub struct Ranked {
     pub codes: Vec<u8>,
 }
 
-/// What is lent to a function: its slices, in the order of the header.
+/// What is lent to a stepping function: its slices, in the order of the header, which has the lanes before the logs.
 pub trait Slices {
-    fn write(&self, slices: &mut Written);
+    fn write_lanes(&self, slices: &mut Written);
+    fn write_logs(&self, slices: &mut Written);
 }
 
 impl Slices for Ranked {
-    fn write(&self, slices: &mut Written) {
+    fn write_lanes(&self, slices: &mut Written) {
         slices.add("marks", &self.marks);
         slices.add("aims", &self.aims);
+    }
+
+    fn write_logs(&self, slices: &mut Written) {
         slices.add("codes", &self.codes);
     }
 }
 
 impl Slices for Lent {
-    fn write(&self, slices: &mut Written) {
+    fn write_lanes(&self, slices: &mut Written) {
         slices.add("words", &self.front.words);
         slices.add("marks", &self.front.marks);
         slices.add("aims", &self.front.aims);
         slices.add("spare words", &self.spare.words);
         slices.add("spare marks", &self.spare.marks);
         slices.add("spare aims", &self.spare.aims);
+    }
+
+    fn write_logs(&self, slices: &mut Written) {
         slices.add("codes", &self.codes);
         slices.add("moved", &self.moved);
     }
@@ -72,9 +84,13 @@ pub struct Written {
 }
 
 impl Written {
-    fn of(lent: &impl Slices) -> Written {
+    /// The lanes alone for a plain function, which takes no log.
+    fn of(lent: &impl Slices, function: Function) -> Written {
         let mut written = Written::default();
-        lent.write(&mut written);
+        lent.write_lanes(&mut written);
+        if matches!(function, Function::Rank | Function::Run(_)) {
+            lent.write_logs(&mut written);
+        }
         written
     }
 
@@ -96,7 +112,8 @@ pub struct Call {
 impl Call {
     /// The call of a function on what is lent, which has to leave what is left and to give the answer.
     pub fn new<T: Slices>(function: Function, side: usize, lent: &T, left: &T, answer: Answer) -> Call {
-        let (Written { slices, bytes: before }, after) = (Written::of(lent), Written::of(left).bytes);
+        let Written { slices, bytes: before } = Written::of(lent, function);
+        let after = Written::of(left, function).bytes;
         let mut head = vec![function.number(), side];
         head.extend(slices.iter().map(|slice| slice.length));
         let answer = [answer.number, answer.place, answer.electronic, answer.swaps];
@@ -107,10 +124,32 @@ impl Call {
 
     /// What is wrong with an answer, told for a reader.
     pub fn told(&self, got: &[u8]) -> String {
-        let ((answer, left), (wanted, wanted_left)) = (got.split_at(ANSWER), self.wanted.split_at(ANSWER));
+        self.told_against(got, &self.wanted)
+    }
+
+    fn told_against(&self, got: &[u8], wanted: &[u8]) -> String {
+        let ((answer, left), (wanted, wanted_left)) = (got.split_at(ANSWER), wanted.split_at(ANSWER));
         let difference = self.difference(left, wanted_left).unwrap_or("lanes and logs as wanted".to_string());
         let fences = if self.fences(left) == self.fences(wanted_left) { "fences whole" } else { "FENCES BROKEN" };
         format!("answer {}\n  wanted {}\n  {difference}; {fences}", told_answer(answer), told_answer(wanted))
+    }
+
+    /// Whether what a plain function gave fits what the stepping function of its name gave on the same lanes: the answer and
+    /// all lanes are the same; but where a log is too short, stepping says so exactly where plain finds no lower number.
+    /// Else what is wrong, told for a reader.
+    pub fn beside(&self, got: &[u8], stepped: &[u8], short_log: bool) -> Result<(), String> {
+        let (plain, stepping) = (number(&got[..8]), number(&stepped[..8]));
+        if short_log && [0, 5, 6].contains(&plain) {
+            let told = || format!("stepping, with too short a log, answers {stepping} where plain answers {plain}");
+            return if stepping == 3 { Ok(()) } else { Err(told()) };
+        }
+        // the answer and the lanes come first in both
+        let stepped = &stepped[..got.len()];
+        if got == stepped {
+            Ok(())
+        } else {
+            Err(format!("not as stepping: {}", self.told_against(got, stepped)))
+        }
     }
 
     /// The cells whose marks were not 0, so that a failure can be made again by hand.
@@ -198,5 +237,36 @@ mod tests {
         got[0] = 6;
         assert!(call.told(&got).starts_with("answer number 6 place 1 "));
         assert_eq!(call.told_marks(), "[1:1] of 2");
+    }
+
+    fn plain_call(number: usize) -> Call {
+        let lent = Ranked { marks: vec![0, 1], aims: vec![7, 258], codes: vec![9] };
+        Call::new(Function::PlainRank, 3, &lent, &lent, Answer { number, place: 1, electronic: 0, swaps: 0 })
+    }
+
+    #[test]
+    fn a_plain_call_has_no_logs() {
+        let request = plain_call(5).request;
+        assert_eq!(request[..32], numbers(&[4, 3, 2, 2]));
+        assert_eq!(request.len(), 32 + 34 + 2 * 34);
+    }
+
+    #[test]
+    fn plain_beside_stepping() {
+        let (plain, stepping) = (plain_call(5), call());
+        let mut stepped = stepping.wanted.clone();
+        stepped[ANSWER + 34 + 2 * FENCE] = 7;
+        assert_eq!(plain.beside(&plain.wanted, &stepped, false), Ok(()));
+        assert!(plain
+            .beside(&plain.wanted, &stepping.wanted, false)
+            .unwrap_err()
+            .contains("aims: entry 0 is 7, not 0"));
+        assert!(plain.beside(&plain.wanted, &stepped, true).is_err());
+        stepped[0] = 3;
+        assert!(plain.beside(&plain.wanted, &stepped, false).is_err());
+        assert_eq!(plain.beside(&plain.wanted, &stepped, true), Ok(()));
+        assert!(plain.beside(&plain_call(2).wanted, &stepped, true).is_err());
+        stepped[0] = 2;
+        assert_eq!(plain.beside(&plain_call(2).wanted, &stepped, true), Ok(()));
     }
 }

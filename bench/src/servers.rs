@@ -11,10 +11,13 @@ use std::sync::mpsc::{sync_channel, Receiver, SyncSender};
 use std::sync::Arc;
 use std::thread;
 
-/// A call, and what it tries.
+/// A call of a stepping function and one of the plain function of its name on the same lanes, and what they try. Where a log
+/// is too short, stepping refuses what plain does not look at.
 pub struct Case {
     pub what: String,
-    pub call: Call,
+    pub stepping: Call,
+    pub plain: Call,
+    pub short_log: bool,
 }
 
 type Batch = Arc<Vec<Case>>;
@@ -102,7 +105,7 @@ impl Server {
 }
 
 fn takes(ranks_alone: bool, case: &Case) -> bool {
-    !ranks_alone || case.call.function == Function::Rank
+    !ranks_alone || case.stepping.function == Function::Rank
 }
 
 /// Where the cases of one part go.
@@ -114,7 +117,7 @@ pub struct Cases {
 
 impl Cases {
     pub fn add(&mut self, case: Case) {
-        self.bytes += case.call.request.len();
+        self.bytes += case.stepping.request.len() + case.plain.request.len();
         self.batch.push(case);
         if self.bytes >= BATCH {
             self.send();
@@ -159,13 +162,14 @@ fn feed(input: &mut BufWriter<ChildStdin>, ranks_alone: bool, batches: Receiver<
 
 fn feed_batch(input: &mut BufWriter<ChildStdin>, ranks_alone: bool, batch: &[Case]) -> std::io::Result<()> {
     for case in batch.iter().filter(|case| takes(ranks_alone, case)) {
-        input.write_all(&case.call.request)?;
+        input.write_all(&case.stepping.request)?;
+        input.write_all(&case.plain.request)?;
     }
     input.write_all(&SEND)?;
     input.flush()
 }
 
-/// Gives back how many cases were compared.
+/// Gives back how many calls were compared.
 fn compare(
     name: &str,
     output: &mut BufReader<ChildStdout>,
@@ -177,26 +181,47 @@ fn compare(
     for batch in batches {
         for case in batch.iter().filter(|case| takes(ranks_alone, case)) {
             compare_case(name, output, case, tally);
-            compared += 1;
+            compared += 2;
         }
     }
     compared
 }
 
+/// Both calls against the model, and one beside the other.
 fn compare_case(name: &str, output: &mut BufReader<ChildStdout>, case: &Case, tally: &Tally) {
-    let Case { what, call } = case;
-    let mut got = vec![0; call.wanted.len()];
-    let read = output.read_exact(&mut got);
-    if read.is_ok() && got == call.wanted {
-        return tally.pass();
+    let Case { what, stepping, plain, short_log } = case;
+    let stepped = compare_call(name, output, what, stepping, tally);
+    let at_once = compare_call(name, output, what, plain, tally);
+    let (Some(stepped), Some(at_once)) = (stepped, at_once) else { return };
+    match plain.beside(&at_once, &stepped, *short_log) {
+        Ok(()) => tally.pass(),
+        Err(told) => tally.fail(|| told_failure(name, what, plain, &told)),
     }
-    tally.fail(|| {
-        let told = if read.is_ok() {
-            call.told(&got)
-        } else {
-            "NO ANSWER: the server ended in this case or in one soon after".to_string()
-        };
-        let (function, side, marks) = (call.function, call.side, call.told_marks());
-        format!("{name} {function:?}, {what}, side {side}, marks {marks}\n  {told}")
-    });
+}
+
+/// Gives back what the server answered, if it did.
+fn compare_call(
+    name: &str,
+    output: &mut BufReader<ChildStdout>,
+    what: &str,
+    call: &Call,
+    tally: &Tally,
+) -> Option<Vec<u8>> {
+    let mut got = vec![0; call.wanted.len()];
+    if output.read_exact(&mut got).is_err() {
+        let told = "NO ANSWER: the server ended in this case or in one soon after";
+        tally.fail(|| told_failure(name, what, call, told));
+        return None;
+    }
+    if got == call.wanted {
+        tally.pass();
+    } else {
+        tally.fail(|| told_failure(name, what, call, &call.told(&got)));
+    }
+    Some(got)
+}
+
+fn told_failure(name: &str, what: &str, call: &Call, told: &str) -> String {
+    let (function, side, marks) = (call.function, call.side, call.told_marks());
+    format!("{name} {function:?}, {what}, side {side}, marks {marks}\n  {told}")
 }

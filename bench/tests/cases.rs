@@ -1,4 +1,5 @@
-//! The bench cases of document 01, starred and not, on the second model; and the sentences around them that can be run.
+//! The bench cases of document 01, starred and not, on the second model; and the sentences around them that can be run. Full
+//! runs are made by the model that steps, after its plain fellow was held to it.
 
 use otis_bench::frames::{self, Dice, KINDS};
 use otis_bench::model::answers::Answer;
@@ -6,6 +7,7 @@ use otis_bench::model::board::Board;
 use otis_bench::model::cases;
 use otis_bench::model::job;
 use otis_bench::model::moves::{self, Edge, Line, DOWN, LEFT, RIGHT, SWAP, UP};
+use otis_bench::model::plain;
 use otis_bench::model::records::{self, Lanes, Lent, Operation};
 use otis_bench::model::words;
 
@@ -77,10 +79,78 @@ fn upto(count: usize) -> Vec<usize> {
     (0..count).collect()
 }
 
+// ---- stepped, after the plain model was held to it
+
+/// A log that is long enough for every list.
+const LONG: usize = 64;
+
+const LINES: [Line; 4] = [Line::MeshRow, Line::MeshColumn, Line::GroupRow, Line::GroupColumn];
+const EDGES: [Edge; 2] = [Edge::ZeroFill, Edge::Circular];
+
+/// An operation on words: plain leaves and answers what stepping does where the log is long enough.
+fn on_words(
+    words: &mut [u32],
+    codes: &mut [u8],
+    stepping: impl Fn(&mut [u32], &mut [u8]) -> Answer,
+    plain: impl Fn(&mut [u32]) -> Answer,
+) -> Answer {
+    let (mut at_once, mut stepped) = (words.to_vec(), words.to_vec());
+    assert_eq!(plain(&mut at_once), stepping(&mut stepped, &mut [9; LONG]));
+    assert_eq!(at_once, stepped);
+    stepping(words, codes)
+}
+
+fn broadcast(side: usize, words: &mut [u32], codes: &mut [u8], cell: usize) -> Answer {
+    let stepping = |words: &mut [u32], codes: &mut [u8]| words::broadcast(side, words, codes, cell);
+    on_words(words, codes, stepping, |words| plain::broadcast(side, words, cell))
+}
+
+fn data_sum(side: usize, words: &mut [u32], codes: &mut [u8]) -> Answer {
+    let stepping = |words: &mut [u32], codes: &mut [u8]| words::data_sum(side, words, codes);
+    on_words(words, codes, stepping, |words| plain::data_sum(side, words))
+}
+
+fn prefix_sum(side: usize, words: &mut [u32], codes: &mut [u8]) -> Answer {
+    let stepping = |words: &mut [u32], codes: &mut [u8]| words::prefix_sum(side, words, codes);
+    on_words(words, codes, stepping, |words| plain::prefix_sum(side, words))
+}
+
+fn shift(side: usize, words: &mut [u32], codes: &mut [u8], line: Line, edge: Edge, by: i32) -> Answer {
+    let stepping = |words: &mut [u32], codes: &mut [u8]| words::shift(side, words, codes, line, edge, by);
+    on_words(words, codes, stepping, |words| plain::shift(side, words, line, edge, by))
+}
+
+fn rank(side: usize, marks: &[u8], aims: &mut [u16], codes: &mut [u8]) -> Answer {
+    let (mut at_once, mut stepped) = (aims.to_vec(), aims.to_vec());
+    let answer = words::rank(side, marks, &mut stepped, &mut [9; LONG]);
+    assert_eq!(plain::rank(side, marks, &mut at_once), answer);
+    assert_eq!(at_once, stepped);
+    words::rank(side, marks, aims, codes)
+}
+
+fn concentrate(side: usize, lent: &mut Lent) -> Answer {
+    full(Operation::Concentrate, side, lent)
+}
+
+fn distribute(side: usize, lent: &mut Lent) -> Answer {
+    full(Operation::Distribute, side, lent)
+}
+
+fn full(operation: Operation, side: usize, lent: &mut Lent) -> Answer {
+    let (mut front, mut spare) = (lent.front.clone(), lent.spare.clone());
+    let mut stepped = Lent { codes: vec![9; LONG], moved: vec![9; LONG], ..lent.clone() };
+    let answer = records::full(operation, side, &mut stepped);
+    assert_eq!(plain::at_once(operation, side, &mut front, &mut spare), answer);
+    assert_eq!((front, spare), (stepped.front, stepped.spare));
+    records::full(operation, side, lent)
+}
+
+// ---- the bench cases
+
 #[test]
 fn side_1_with_its_one_cell_marked() {
     let mut lent = ranked(1, &[0]);
-    assert_eq!(records::concentrate(1, &mut lent), accepted(0, 2));
+    assert_eq!(concentrate(1, &mut lent), accepted(0, 2));
     assert_eq!(lent.moved, [0, 0]);
     assert_eq!(lent.codes, [0, 0]);
     assert_eq!(lent.front, standing(1, &[0], &[0]));
@@ -98,7 +168,7 @@ fn side_2_marks_at_0_4_5_meet_in_cell_5() {
     assert_eq!(spare.marks.iter().sum::<u8>(), 1);
 
     let mut lent = start;
-    assert_eq!(records::concentrate(2, &mut lent), accepted(7, 2));
+    assert_eq!(concentrate(2, &mut lent), accepted(7, 2));
     assert_eq!(lent.front, standing(2, &[0, 1, 2], &[0, 1, 2]));
     assert_eq!(lent.spare, Lanes::empty(16));
 }
@@ -111,7 +181,7 @@ fn the_example_job_byte_for_byte() {
 #[test]
 fn the_nine_moved_counts_of_the_example_job() {
     let mut lent = ranked(2, &[1, 6, 11]);
-    assert_eq!(records::concentrate(2, &mut lent), accepted(7, 2));
+    assert_eq!(concentrate(2, &mut lent), accepted(7, 2));
     assert_eq!(lent.moved, [1, 2, 1, 0, 0, 0, 1, 1, 2]);
     assert_eq!(lent.codes, [1, 2, 3, 4, 0, 1, 2, 3, 0]);
 }
@@ -119,7 +189,7 @@ fn the_nine_moved_counts_of_the_example_job() {
 #[test]
 fn distribute_at_side_2_to_1_6_11() {
     let mut lent = aimed(2, &[1, 6, 11]);
-    assert_eq!(records::distribute(2, &mut lent), accepted(7, 2));
+    assert_eq!(distribute(2, &mut lent), accepted(7, 2));
     assert_eq!(lent.moved, [2, 1, 1, 0, 0, 0, 1, 2, 1]);
     assert_eq!(lent.codes, [0, 4, 1, 2, 0, 3, 4, 1, 2]);
     assert_eq!(lent.front, standing(2, &[1, 6, 11], &[1, 6, 11]));
@@ -129,7 +199,7 @@ fn distribute_at_side_2_to_1_6_11() {
 #[test]
 fn side_2_all_marked_moves_12_in_each_swap() {
     let mut lent = ranked(2, &upto(16));
-    assert_eq!(records::concentrate(2, &mut lent), accepted(7, 2));
+    assert_eq!(concentrate(2, &mut lent), accepted(7, 2));
     assert_eq!(lent.moved, [0, 0, 0, 0, 12, 0, 0, 0, 12]);
     assert_eq!(lent.front, standing(2, &upto(16), &upto(16)));
 }
@@ -137,7 +207,7 @@ fn side_2_all_marked_moves_12_in_each_swap() {
 #[test]
 fn side_2_none_marked() {
     let mut lent = ranked(2, &[]);
-    assert_eq!(records::concentrate(2, &mut lent), accepted(7, 2));
+    assert_eq!(concentrate(2, &mut lent), accepted(7, 2));
     assert_eq!(lent.moved, [0; 9]);
     assert_eq!(lent.front, Lanes::empty(16));
     assert_eq!(lent.spare, Lanes::empty(16));
@@ -150,12 +220,12 @@ fn sums_wrap() {
     start[1] = 2;
     let mut codes = vec![9; 9];
     let mut sums = start.clone();
-    assert_eq!(words::prefix_sum(2, &mut sums, &mut codes), accepted(7, 2));
+    assert_eq!(prefix_sum(2, &mut sums, &mut codes), accepted(7, 2));
     assert_eq!(sums[0], 4_294_967_295);
     assert_eq!(sums[1..], [1; 15]);
     assert_eq!(codes, [1, 4, 0, 1, 4, 2, 0, 3, 2]);
     let mut sums = start;
-    assert_eq!(words::data_sum(2, &mut sums, &mut codes), accepted(8, 1));
+    assert_eq!(data_sum(2, &mut sums, &mut codes), accepted(8, 1));
     assert_eq!(sums, [1; 16]);
     assert_eq!(codes, [1, 2, 4, 3, 0, 1, 2, 4, 3]);
 }
@@ -164,7 +234,7 @@ fn sums_wrap() {
 fn mesh_row_shift_by_1_zero_fill() {
     let mut lane: Vec<u32> = (0..16).collect();
     let mut codes = vec![9; 2];
-    assert_eq!(words::shift(2, &mut lane, &mut codes, Line::MeshRow, Edge::ZeroFill, 1), accepted(1, 0));
+    assert_eq!(shift(2, &mut lane, &mut codes, Line::MeshRow, Edge::ZeroFill, 1), accepted(1, 0));
     assert_eq!(lane[..6], [0, 0, 0, 2, 0, 4]);
     assert_eq!(codes, [1, 9]);
 }
@@ -173,7 +243,7 @@ fn mesh_row_shift_by_1_zero_fill() {
 fn group_column_circular_shift_by_1() {
     let mut lane: Vec<u32> = (0..16).collect();
     let mut codes = vec![9; 4];
-    assert_eq!(words::shift(2, &mut lane, &mut codes, Line::GroupColumn, Edge::Circular, 1), accepted(2, 2));
+    assert_eq!(shift(2, &mut lane, &mut codes, Line::GroupColumn, Edge::Circular, 1), accepted(2, 2));
     assert_eq!(lane[0], 8);
     assert_eq!(lane, [8, 9, 10, 11, 12, 13, 14, 15, 0, 1, 2, 3, 4, 5, 6, 7]);
     assert_eq!(codes, [0, 4, 3, 0]);
@@ -182,7 +252,7 @@ fn group_column_circular_shift_by_1() {
 #[test]
 fn side_8_all_marked_moves_4032_in_each_swap() {
     let mut lent = ranked(8, &upto(4096));
-    assert_eq!(records::concentrate(8, &mut lent), accepted(49, 2));
+    assert_eq!(concentrate(8, &mut lent), accepted(49, 2));
     let swaps = (0..51).filter(|&k| lent.codes[k] == 0).map(|k| lent.moved[k]);
     assert_eq!(swaps.collect::<Vec<_>>(), [4032, 4032]);
     assert_eq!(lent.moved.iter().map(|&moved| moved as u32).sum::<u32>(), 8064);
@@ -193,7 +263,7 @@ fn side_8_is_accepted_and_9_and_0_are_refused() {
     for (side, number) in [(8, 0), (9, 1), (0, 1), (usize::MAX, 1)] {
         let mut lent = ranked(8, &[3, 77]);
         let before = lent.clone();
-        assert_eq!(records::concentrate(side, &mut lent).number, number);
+        assert_eq!(concentrate(side, &mut lent).number, number);
         assert_eq!(lent == before, number != 0);
     }
 }
@@ -204,7 +274,7 @@ fn distance_7_is_accepted_at_side_8_and_8_refused() {
         for edge in [Edge::ZeroFill, Edge::Circular] {
             for (by, number) in [(7, 0), (8, 4), (-7, 0), (-8, 4), (i32::MIN, 4), (i32::MAX, 4)] {
                 let mut lane: Vec<u32> = (0..4096).collect();
-                let answer = words::shift(8, &mut lane, &mut [9; 10], line, edge, by);
+                let answer = shift(8, &mut lane, &mut [9; 10], line, edge, by);
                 assert_eq!(answer.number, number);
             }
         }
@@ -235,7 +305,7 @@ fn ranks_start_at_0_and_unmarked_cells_get_0() {
     let marks = [0, 1, 1, 0, 0, 0, 0, 1, 0, 0, 0, 0, 0, 0, 0, 1];
     let mut aims = [9; 16];
     let mut codes = [9; 11];
-    assert_eq!(words::rank(2, &marks, &mut aims, &mut codes), accepted(7, 2));
+    assert_eq!(rank(2, &marks, &mut aims, &mut codes), accepted(7, 2));
     assert_eq!(aims, [0, 0, 1, 0, 0, 0, 0, 2, 0, 0, 0, 0, 0, 0, 0, 3]);
     assert_eq!(codes, [1, 4, 0, 1, 4, 2, 0, 3, 2, 9, 9]);
 }
@@ -244,18 +314,18 @@ fn ranks_start_at_0_and_unmarked_cells_get_0() {
 fn broadcast_gives_every_cell_the_word() {
     let mut lane: Vec<u32> = (0..81).collect();
     let mut codes = [9; 9];
-    assert_eq!(words::broadcast(3, &mut lane, &mut codes, 59), accepted(8, 1));
+    assert_eq!(broadcast(3, &mut lane, &mut codes, 59), accepted(8, 1));
     assert_eq!(lane, [59; 81]);
 }
 
 #[test]
 fn a_bad_argument_comes_before_no_log_and_after_a_bad_lane() {
     let mut lane = vec![5; 16];
-    assert_eq!(words::broadcast(2, &mut lane, &mut [], 15), refused(3, 0));
-    assert_eq!(words::broadcast(2, &mut lane, &mut [], 16), refused(4, 0));
-    assert_eq!(words::broadcast(2, &mut lane[1..], &mut [], 16), refused(2, 0));
-    assert_eq!(words::broadcast(0, &mut lane, &mut [], 16), refused(1, 0));
-    assert_eq!(words::shift(2, &mut lane, &mut [], Line::MeshRow, Edge::ZeroFill, 0), accepted(0, 0));
+    assert_eq!(broadcast(2, &mut lane, &mut [], 15), refused(3, 0));
+    assert_eq!(broadcast(2, &mut lane, &mut [], 16), refused(4, 0));
+    assert_eq!(broadcast(2, &mut lane[1..], &mut [], 16), refused(2, 0));
+    assert_eq!(broadcast(0, &mut lane, &mut [], 16), refused(1, 0));
+    assert_eq!(shift(2, &mut lane, &mut [], Line::MeshRow, Edge::ZeroFill, 0), accepted(0, 0));
     assert_eq!(lane, [5; 16]);
 }
 
@@ -290,7 +360,7 @@ fn every_refusal_of_concentrate_changes_nothing() {
         let mut lent = ranked(2, &[1, 6, 11]);
         damage(&mut lent);
         let before = lent.clone();
-        assert_eq!(records::concentrate(2, &mut lent), answer);
+        assert_eq!(concentrate(2, &mut lent), answer);
         assert_eq!(lent, before);
     }
 }
@@ -310,7 +380,7 @@ fn every_refusal_of_distribute_changes_nothing() {
         let mut lent = aimed(2, &[1, 6, 11]);
         damage(&mut lent);
         let before = lent.clone();
-        assert_eq!(records::distribute(2, &mut lent), answer);
+        assert_eq!(distribute(2, &mut lent), answer);
         assert_eq!(lent, before);
     }
 }
@@ -496,4 +566,93 @@ fn what_the_program_cases_has_to_print() {
     // of 256 words 1, 2, 3, .. the check is 1 + 3 + 6 + .., 256 × 257 × 258 / 6
     assert!(text
         .contains("group words\t16\tside\t4\tcells\t256\tlog\t0\nanswer\t4\t0\t0\t0\npart\nwords checked\t2829056\n"));
+}
+
+// ---- where plain and stepping have to agree, beyond the bench cases
+
+/// Words near 2³², so that sums pass it; no two alike.
+fn large_words(length: usize) -> Vec<u32> {
+    (0..length as u32).map(|cell| (u32::MAX - 5).wrapping_add(cell.wrapping_mul(0x1_0001))).collect()
+}
+
+#[test]
+fn plain_words_at_every_side() {
+    for board in (1..=8).map(|side| Board { side }) {
+        let (side, cells) = (board.side, board.cells());
+        let start = large_words(cells);
+        let step = if side <= 3 { 1 } else { cells / 16 - 1 };
+        for cell in (0..cells + 2).step_by(step).chain([cells - 1, cells, usize::MAX]) {
+            let answer = broadcast(side, &mut start.clone(), &mut [9; LONG], cell);
+            assert_eq!(answer, if cell < cells { accepted(4 * (side - 1), 1) } else { refused(4, 0) });
+        }
+        assert_eq!(data_sum(side, &mut start.clone(), &mut [9; LONG]), accepted(8 * (side - 1), 1));
+        assert_eq!(prefix_sum(side, &mut start.clone(), &mut [9; LONG]), accepted(7 * (side - 1), 2));
+    }
+}
+
+#[test]
+fn plain_shifts_by_every_distance_and_beyond() {
+    for side in 1..=8i32 {
+        let start = large_words(side.pow(4) as usize);
+        for (line, edge) in LINES.iter().flat_map(|&line| EDGES.map(|edge| (line, edge))) {
+            for by in (-side..=side).chain([i32::MIN, i32::MAX]) {
+                let answer = shift(side as usize, &mut start.clone(), &mut [9; LONG], line, edge, by);
+                assert_eq!(answer.number == 0, -side < by && by < side);
+            }
+        }
+    }
+}
+
+#[test]
+fn plain_words_of_wrong_sides_and_lengths() {
+    for (side, length) in [(0, 0), (0, 16), (2, 0), (2, 15), (2, 17), (9, 6561), (65_536, 0), (usize::MAX, 1)] {
+        let start = large_words(length);
+        let number = if (1..=8).contains(&side) { 2 } else { 1 };
+        // an argument that 4 refuses as well
+        assert_eq!(broadcast(side, &mut start.clone(), &mut [], usize::MAX), refused(number, 0));
+        assert_eq!(shift(side, &mut start.clone(), &mut [], LINES[0], EDGES[0], 99), refused(number, 0));
+        assert_eq!(data_sum(side, &mut start.clone(), &mut []), refused(number, 0));
+        assert_eq!(prefix_sum(side, &mut start.clone(), &mut []), refused(number, 0));
+    }
+}
+
+/// Every choice of marks, ranked, concentrated, and distributed back.
+#[test]
+fn plain_records_on_every_choice_of_marks_at_side_2() {
+    for choice in 0..1u32 << 16 {
+        let marked: Vec<usize> = (0..16).filter(|cell| choice >> cell & 1 == 1).collect();
+        let mut lent = ranked(2, &marked);
+        assert_eq!(rank(2, &lent.front.marks, &mut [9; 16], &mut [9; 9]), accepted(7, 2));
+        assert_eq!(concentrate(2, &mut lent), accepted(7, 2));
+        assert_eq!(distribute(2, &mut aimed(2, &marked)), accepted(7, 2));
+    }
+}
+
+#[test]
+fn plain_records_on_frames_of_every_kind() {
+    let dice = &mut Dice::new(2);
+    for board in (1..=8).map(|side| Board { side }) {
+        for kind in KINDS {
+            let marked = frames::marks(board, kind, dice);
+            let mut lent = frames::to_concentrate(board, &marked, LONG, dice);
+            let mut aims = lent.front.aims.clone();
+            rank(board.side, &lent.front.marks, &mut aims, &mut [9; LONG]);
+            assert_eq!(concentrate(board.side, &mut lent).number, 0);
+            assert_eq!(distribute(board.side, &mut frames::to_distribute(board, &marked, LONG, dice)).number, 0);
+        }
+    }
+}
+
+/// Frames with a mark or an aim that is off, and with no room for a log: where stepping says 3, plain goes on.
+#[test]
+fn plain_takes_no_log() {
+    for (mark, aim, number) in [(1, 1, 0), (2, 1, 5), (1, 2, 6), (255, 2, 5)] {
+        let mut lent = ranked(2, &[1, 6, 11]);
+        (lent.front.marks[6], lent.front.aims[6]) = (mark, aim);
+        lent.codes.truncate(8);
+        assert_eq!(concentrate(2, &mut lent), refused(3, 0));
+        assert_eq!(plain::at_once(Operation::Concentrate, 2, &mut lent.front, &mut lent.spare).number, number);
+    }
+    assert_eq!(rank(2, &[0, 1, 2, 1, 0, 1, 2, 1, 0, 1, 2, 1, 0, 1, 2, 1], &mut [9; 16], &mut []), refused(3, 0));
+    assert_eq!(plain::rank(2, &[2; 16], &mut [9; 16]), refused(5, 0));
 }

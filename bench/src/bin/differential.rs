@@ -1,15 +1,17 @@
-//! Compares the archive, and the C stepper that it is measured against, with the second model: the answer, every lane and
-//! every log after the call, and the fences around them. The last line counts the comparisons.
+//! Compares the archive, and the C functions that it is measured against, with the second model: the answer, every lane and
+//! every log after the call, and the fences around them. Every case is a call of a stepping function and one of the plain
+//! function of its name on the same lanes: the first is held to the model that steps, the second to the plain one, and what
+//! came back of the second to what came back of the first. The last line counts the comparisons.
 //!
 //! `differential [--first] ARCHIVE.. -- STEPPER.. -- SHORTEST..`: the words that start `c/server.c` over the archive, over the
-//! stepper, and over the stepper whose rank makes no moves, which is only asked to rank. With `--first` it stops at the first
-//! failure.
+//! C functions, and over those with the stepper's rank that makes no moves, which is only asked to rank. With `--first` it
+//! stops at the first failure.
 
 use otis_bench::calls::{Call, Function, Ranked};
 use otis_bench::frames::{self, Dice, Kind, KINDS};
 use otis_bench::model::board::Board;
 use otis_bench::model::records::{self, Lanes, Lent, Operation};
-use otis_bench::model::{moves, words};
+use otis_bench::model::{moves, plain, words};
 use otis_bench::servers::{compare_part, Case, Cases, Server, Tally};
 use std::process::ExitCode;
 
@@ -23,12 +25,15 @@ const FRAMES: [usize; 8] = [20, 200, 400, 300, 150, 80, 50, 30];
 /// Damaged frames, by side.
 const DAMAGED: [usize; 8] = [500, 3000, 3000, 1500, 600, 300, 150, 100];
 
+/// Frames with each fault and a log that is too short.
+const SHORT_LOGS: usize = 12;
+
 /// Names, and whether they rank alone.
-const SERVERS: [(&str, bool); 3] = [("archive", false), ("C stepper", false), ("C stepper's shortest rank", true)];
+const SERVERS: [(&str, bool); 3] = [("archive", false), ("C functions", false), ("C stepper's shortest rank", true)];
 
 type Part = fn(&mut Trial);
 
-const PARTS: [(&str, Part); 9] = [
+const PARTS: [(&str, Part); 10] = [
     ("every choice of marks at side 2, ranked, concentrated, distributed back", every_choice),
     ("one cell marked, and two across every group end, sides 1 to 4", ones_and_twos),
     ("frames of every kind, sides 1 to 8", every_kind),
@@ -37,6 +42,7 @@ const PARTS: [(&str, Part); 9] = [
     ("logs of every length up to two too long", every_log),
     ("a damaged mark in every cell", damaged_marks),
     ("a damaged aim in every cell", damaged_aims),
+    ("damaged frames, with logs that are too short", short_logs),
     ("several damages at once", mixed_damages),
 ];
 
@@ -80,19 +86,31 @@ fn compare_all(servers: &mut [Server], tally: &Tally) {
 // ---- one case
 
 fn check_rank(trial: &mut Trial, what: &str, side: usize, lent: Ranked) {
-    let mut left = lent.clone();
-    let wanted = words::rank(side, &lent.marks, &mut left.aims, &mut left.codes);
-    let call = Call::new(Function::Rank, side, &lent, &left, wanted);
-    trial.cases.add(Case { what: what.to_string(), call });
+    let (mut left, mut plain_left) = (lent.clone(), lent.clone());
+    let answer = words::rank(side, &lent.marks, &mut left.aims, &mut left.codes);
+    let stepping = Call::new(Function::Rank, side, &lent, &left, answer);
+    let answer = plain::rank(side, &lent.marks, &mut plain_left.aims);
+    let plain = Call::new(Function::PlainRank, side, &lent, &plain_left, answer);
+    let short_log = is_short(side, &[lent.codes.len()]);
+    trial.cases.add(Case { what: what.to_string(), stepping, plain, short_log });
 }
 
-/// Gives back what the model leaves.
+/// Gives back what the model that steps leaves.
 fn check_run(trial: &mut Trial, what: &str, operation: Operation, side: usize, lent: &Lent) -> Lent {
-    let mut left = lent.clone();
-    let wanted = records::full(operation, side, &mut left);
-    let call = Call::new(Function::Run(operation), side, lent, &left, wanted);
-    trial.cases.add(Case { what: what.to_string(), call });
+    let (mut left, mut plain_left) = (lent.clone(), lent.clone());
+    let answer = records::full(operation, side, &mut left);
+    let stepping = Call::new(Function::Run(operation), side, lent, &left, answer);
+    let answer = plain::at_once(operation, side, &mut plain_left.front, &mut plain_left.spare);
+    let plain = Call::new(Function::PlainRun(operation), side, lent, &plain_left, answer);
+    let short_log = is_short(side, &[lent.codes.len(), lent.moved.len()]);
+    trial.cases.add(Case { what: what.to_string(), stepping, plain, short_log });
     left
+}
+
+/// Whether a log of these is too short for the board of that side, if there is one.
+fn is_short(side: usize, logs: &[usize]) -> bool {
+    let mut boards = boards();
+    boards.any(|board| board.side == side && logs.iter().any(|&length| length < log_length(board)))
 }
 
 fn check_all(trial: &mut Trial, what: &str, side: usize, lent: &Lent) {
@@ -292,6 +310,35 @@ fn damaged_aims(trial: &mut Trial) {
                     let mut lent = some_frame(board, operation, trial.dice);
                     lent.front.aims[cell] = aim;
                     check_all(trial, &format!("aim {aim} in cell {cell}"), board.side, &lent);
+                }
+            }
+        }
+    }
+}
+
+/// Makes something of a cell wrong.
+type Fault = fn(&mut Lent, usize);
+
+/// What is wrong with a frame besides its logs: nothing, the mark of a cell, its aim, or both.
+const FAULTS: [(&str, Fault); 4] = [
+    ("good", |_, _| ()),
+    ("a bad mark", |lent, cell| lent.front.marks[cell] = 2),
+    ("another aim", |lent, cell| lent.front.aims[cell] ^= 1),
+    ("a bad mark and another aim", |lent, cell| (lent.front.marks[cell], lent.front.aims[cell]) = (255, u16::MAX)),
+];
+
+/// Stepping has to refuse the log, and plain to go on to the frame.
+fn short_logs(trial: &mut Trial) {
+    for board in boards() {
+        let long = log_length(board);
+        for (codes, moved) in [(0, 0), (long - 1, long), (long, long - 1)] {
+            for ((name, damage), operation) in FAULTS.iter().flat_map(|&fault| OPERATIONS.map(|each| (fault, each))) {
+                for _ in 0..SHORT_LOGS {
+                    let mut lent = some_frame(board, operation, trial.dice);
+                    damage(&mut lent, trial.dice.below(board.cells()));
+                    lent.codes.truncate(codes);
+                    lent.moved.truncate(moved);
+                    check_all(trial, &format!("{name}, logs of {codes} and {moved}"), board.side, &lent);
                 }
             }
         }

@@ -35,7 +35,7 @@ impl Lanes {
         Lanes { words: vec![0; cells], marks: vec![0; cells], aims: vec![0; cells] }
     }
 
-    fn lengths(&self) -> [usize; 3] {
+    pub(super) fn lengths(&self) -> [usize; 3] {
         [self.words.len(), self.marks.len(), self.aims.len()]
     }
 

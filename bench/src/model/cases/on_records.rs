@@ -2,6 +2,7 @@
 
 use super::{answer_line, lent, line, row};
 use crate::model::board::Board;
+use crate::model::plain;
 use crate::model::records::{self, Lanes, Lent, Operation};
 use crate::model::words;
 use Operation::{Concentrate, Distribute};
@@ -97,7 +98,14 @@ fn rank_run(side: usize, log: usize, marks: &[u8]) -> String {
     let mut codes = vec![9; log];
     let answer = words::rank(side, marks, &mut aims, &mut codes);
     let head = String::from("rank") + &lent(side, marks.len(), log);
-    head + &answer_line(answer) + &row("codes", &codes) + &row("aims", &aims)
+    head + &answer_line(answer) + &row("codes", &codes) + &row("aims", &aims) + &plain_rank(side, marks)
+}
+
+/// The same without moves.
+fn plain_rank(side: usize, marks: &[u8]) -> String {
+    let mut aims = vec![9; marks.len()];
+    let answer = plain::rank(side, marks, &mut aims);
+    String::from("plain\n") + &answer_line(answer) + &row("aims", &aims)
 }
 
 /// The spare lanes hold what nothing looks at.
@@ -108,10 +116,17 @@ fn with_spare(front: Lanes, log: usize) -> Lent {
 }
 
 fn whole_run(operation: Operation, side: usize, log: usize, front: Lanes) -> String {
-    let mut run = with_spare(front, log);
+    let mut run = with_spare(front.clone(), log);
     let head = String::from(name(operation)) + &lent(side, run.front.words.len(), log);
     let answer = records::full(operation, side, &mut run);
-    head + &answer_line(answer) + &both_lanes(&run) + &row("codes", &run.codes) + &row("moved", &run.moved)
+    let logs = row("codes", &run.codes) + &row("moved", &run.moved);
+    head + &answer_line(answer) + &both_lanes(&run) + &logs + &plain_run(operation, side, front)
+}
+
+fn plain_run(operation: Operation, side: usize, front: Lanes) -> String {
+    let mut run = with_spare(front, 0);
+    let answer = plain::at_once(operation, side, &mut run.front, &mut run.spare);
+    String::from("plain\n") + &answer_line(answer) + &both_lanes(&run)
 }
 
 fn cut_run(operation: Operation, side: usize, cut: usize, front: Lanes) -> String {

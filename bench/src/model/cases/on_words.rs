@@ -4,6 +4,7 @@ use super::{answer_line, lent, row};
 use crate::model::answers::Answer;
 use crate::model::board::Board;
 use crate::model::moves::{Edge, Line};
+use crate::model::plain;
 use crate::model::words;
 
 #[derive(Clone, Copy)]
@@ -34,6 +35,15 @@ impl Operation {
             Shift(line, edge, by) => words::shift(side, words, codes, line, edge, by),
         }
     }
+
+    fn plainly(self, side: usize, words: &mut [u32]) -> Answer {
+        match self {
+            Broadcast(cell) => plain::broadcast(side, words, cell),
+            DataSum => plain::data_sum(side, words),
+            PrefixSum => plain::prefix_sum(side, words),
+            Shift(line, edge, by) => plain::shift(side, words, line, edge, by),
+        }
+    }
 }
 
 const LINES: [Line; 4] = [Line::MeshRow, Line::MeshColumn, Line::GroupRow, Line::GroupColumn];
@@ -58,9 +68,12 @@ fn edge_name(edge: Edge) -> &'static str {
 
 fn run(operation: Operation, side: usize, mut words: Vec<u32>, log: usize) -> String {
     let mut codes = vec![9; log];
+    let mut plain = words.clone();
     let head = operation.name() + &lent(side, words.len(), log);
     let answer = operation.call(side, &mut words, &mut codes);
-    head + &answer_line(answer) + &row("codes", &codes) + &row("words", &words)
+    let plain_answer = operation.plainly(side, &mut plain);
+    let stepped = head + &answer_line(answer) + &row("codes", &codes) + &row("words", &words);
+    stepped + "plain\n" + &answer_line(plain_answer) + &row("words", &plain)
 }
 
 /// Words that count up from the first, modulo 2³².
