@@ -5,7 +5,7 @@ help:
 	@echo 'make run            the moves of an example job; make run JOB=FILE: of another'
 	@echo 'make test           the whole test, from nothing: half an hour'
 	@echo 'make lib            the archive for C, target/lib/libotis.a, to use with include/otis.h'
-	@echo 'make bench          times of the archive against a C stepper'
+	@echo 'make bench          times of both engines against C functions of the same'
 	@echo 'README.md says what they need, and what they do.'
 
 run:
