@@ -1,5 +1,5 @@
 /* Broadcast, data sum, prefix sum and the shifts without their moves: the arguments are judged, then the final lane is written in
- * place. Written for speed in the ordinary way, from document 01, and proved by nobody; c/speed_words.c holds it to the proved
+ * place. Written for speed in the ordinary way, from documents 01 and 02, and proved by nobody; c/speed_words.c holds it to the proved
  * engines where it measures them. */
 #include "plain_words.h"
 
@@ -145,7 +145,7 @@ struct otis_answer straight_shift(size_t side, size_t axis, size_t edge, int32_t
     strip = strip_along(side, axis);
     if (edge != ZERO_FILL) {
         shift_round(words_length, side * strip, (k < 0 ? side + (size_t)k : (size_t)k) * strip, words);
-        return accepted(side, swaps);
+        return accepted(k ? side : 0, swaps);
     }
     steps = k < 0 ? (size_t)-k : (size_t)k;
     (k < 0 ? shift_back : shift_forth)(words_length, side * strip, steps * strip, words);

@@ -1,4 +1,4 @@
-//! A second model of the board, written from the scope (document 01) alone.
+//! A second model of the board, written from the scope (document 01) and the change requests (document 02) alone.
 //!
 //! It shares no line and no idea of layout with the proved crates, so that a slip in one of the two shows as a difference.
 //! Where the board moves registers from cell to cell, this model says the result: a broadcast, a sum or a shift is worked

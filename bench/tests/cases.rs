@@ -1,5 +1,5 @@
-//! The bench cases of document 01, starred and not, on the second model; and the sentences around them that can be run. Full
-//! runs are made by the model that steps, after its plain fellow was held to it.
+//! The bench cases of document 01, starred and not, on the second model; and the sentences around them, and of document 02, that
+//! can be run. Full runs are made by the model that steps, after its plain fellow was held to it.
 
 use otis_bench::frames::{self, Dice, KINDS};
 use otis_bench::model::answers::Answer;
@@ -339,6 +339,23 @@ fn the_stretch_of_a_group() {
     assert!(words::stretch(2, &lane, 0).is_empty());
     assert_eq!(words::stretch_answer(2, &lane, 0), refused(2, 0));
     assert_eq!(words::stretch_answer(9, &lane, 0), refused(1, 0));
+}
+
+#[test]
+fn a_circular_shift_by_nothing_needs_a_log_for_its_swaps_alone() {
+    let start: Vec<u32> = (0..16).collect();
+    for (line, log, answer) in [
+        (Line::MeshRow, 0, accepted(0, 0)),
+        (Line::MeshColumn, 2, accepted(0, 0)),
+        (Line::GroupRow, 1, refused(3, 0)),
+        (Line::GroupColumn, 3, accepted(0, 2)),
+    ] {
+        let mut lane = start.clone();
+        let mut codes = vec![9; log];
+        assert_eq!(shift(2, &mut lane, &mut codes, line, Edge::Circular, 0), answer);
+        assert_eq!(lane, start);
+        assert_eq!(codes, [vec![0; answer.swaps], vec![9; log - answer.swaps]].concat());
+    }
 }
 
 /// Makes one thing wrong.

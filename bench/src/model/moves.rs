@@ -1,4 +1,4 @@
-//! Moves, and the move list of every operation: the table of the scope.
+//! Moves, and the move list of every operation: the table of the scope, and the change requests' corrections to it.
 
 use super::board::Board;
 
@@ -113,6 +113,8 @@ pub fn shift(board: Board, line: Line, edge: Edge, by: i32) -> Vec<Move> {
     let on_mesh = match edge {
         Edge::ZeroFill if by >= 0 => list(&[(forth, by as usize)]),
         Edge::ZeroFill => list(&[(back, -by as usize)]),
+        // request 2: "a circular shift by 0 has no electronic move"
+        Edge::Circular if by == 0 => Vec::new(),
         Edge::Circular => {
             let ahead = by.rem_euclid(board.side as i32) as usize;
             list(&[(forth, ahead), (back, board.side - ahead)])
@@ -149,14 +151,15 @@ mod tests {
     }
 
     #[test]
-    fn a_circular_shift_costs_side_moves_for_every_distance() {
+    fn a_circular_shift_costs_side_moves_and_by_nothing_none() {
         for side in 1..=8i32 {
             let board = Board { side: side as usize };
             for by in 1 - side..side {
+                let electronic = if by == 0 { 0 } else { side as usize };
                 let mesh = shift(board, Line::MeshRow, Edge::Circular, by);
-                assert_eq!(counts(&mesh), (side as usize, 0));
+                assert_eq!(counts(&mesh), (electronic, 0));
                 let group = shift(board, Line::GroupColumn, Edge::Circular, by);
-                assert_eq!(counts(&group), (side as usize, 2));
+                assert_eq!(counts(&group), (electronic, 2));
             }
         }
     }
@@ -175,6 +178,14 @@ mod tests {
         assert_eq!(shift(board, Line::MeshColumn, Edge::ZeroFill, -3), [UP, UP, UP]);
         assert_eq!(shift(board, Line::GroupRow, Edge::ZeroFill, -1), [SWAP, LEFT, SWAP]);
         assert_eq!(shift(board, Line::GroupColumn, Edge::ZeroFill, 0), [SWAP, SWAP]);
+    }
+
+    #[test]
+    fn circular_shifts_go_round_or_not_at_all() {
+        let board = Board { side: 4 };
         assert_eq!(shift(board, Line::MeshColumn, Edge::Circular, -1), [DOWN, DOWN, DOWN, UP]);
+        assert_eq!(shift(board, Line::GroupRow, Edge::Circular, 1), [SWAP, RIGHT, LEFT, LEFT, LEFT, SWAP]);
+        assert_eq!(shift(board, Line::MeshRow, Edge::Circular, 0), []);
+        assert_eq!(shift(board, Line::GroupColumn, Edge::Circular, 0), [SWAP, SWAP]);
     }
 }

@@ -45,6 +45,7 @@ pub fn shift(side: usize, words: &mut [u32], line: Line, edge: Edge, by: i32) ->
         write(words, |before, cell| source(board, line, edge, by, cell).map_or(0, |source| before[source]));
         let electronic = match edge {
             Edge::ZeroFill => by.unsigned_abs() as usize,
+            Edge::Circular if by == 0 => 0,
             Edge::Circular => board.side,
         };
         let swaps = match line {

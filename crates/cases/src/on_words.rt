@@ -128,6 +128,22 @@ fn lengths(operation: Operation, moves: usize)
     run_counting_up(operation, 2, 16, moves + 1);
 }
 
+// Logs of no, one and two entries: on a mesh there is no move to log, on groups the two swaps.
+fn circular_by_nothing(side: usize, axis: Axis) {
+    let n = lane_cells(side);
+    let by_nothing = Operation::Shift(axis, Edge::Circular, 0);
+    run_counting_up(by_nothing, side, n, 0);
+    run_counting_up(by_nothing, side, n, 1);
+    run_counting_up(by_nothing, side, n, 2);
+}
+
+fn circulars_by_nothing(side: usize) {
+    circular_by_nothing(side, Axis::MeshRow);
+    circular_by_nothing(side, Axis::MeshColumn);
+    circular_by_nothing(side, Axis::GroupRow);
+    circular_by_nothing(side, Axis::GroupColumn);
+}
+
 // Arguments far past the last, whose list counts as empty, so that no log is too short for it.
 fn far_arguments() {
     run_counting_up(Operation::Broadcast(18446744073709551615), 2, 16, 0);
@@ -166,6 +182,9 @@ pub(crate) fn refused_words() {
     lengths(Operation::PrefixSum, 9);
     lengths(Operation::Shift(Axis::MeshRow, Edge::ZeroFill, 1), 1);
     lengths(Operation::Shift(Axis::GroupColumn, Edge::Circular, 1), 4);
+    circulars_by_nothing(1);
+    circulars_by_nothing(2);
+    circulars_by_nothing(8);
     far_arguments();
     stretch(2, 0, 15);
     stretch(2, 4, 17);

@@ -13,12 +13,13 @@ use Rattle.shiftlists.specs.declared.Edge.{Edge}
 use Rattle.shiftlists.specs.declared.Edge.the-variants.{ZeroFill, Circular}
 use Rattle.shiftlists.specs.declared.Distance.{Distance}
 use Rattle.array.specs.Cells.{groups}
+use Rattle.shiftlists.specs.Shifts.{circularMoves}
 use Rattle.shifts.specs.Results.{wordFrom}
 
 -- how many electronic moves a shift makes; a count takes 64 bits
 abbrev pub shiftMoves : Edge → ℕ → Distance → ℕ
 shiftMoves ZeroFill s k = (k .forth + k .back) % 2 ^ 64
-shiftMoves Circular s k = s
+shiftMoves Circular s k = circularMoves s k
 
 -- a distance within a side that is built
 pub record Near (s : ℕ) (k : Distance) : Type 0 where

@@ -10,6 +10,7 @@ use lists::total_moves;
 use shiftlists::Axis;
 use shiftlists::Distance;
 use shiftlists::Edge;
+use shiftlists::circular_moves;
 use shiftlists::distance_case;
 use shiftlists::distance_of;
 ghost use mathlib.Core.Path.{_≡_};
@@ -57,7 +58,7 @@ fn shift_moves(edge: Edge, side: usize, k: Distance) -> usize
 {
     match edge {
         Edge::ZeroFill => std::num::wrapping_add_usize(k.forth, k.back),
-        Edge::Circular => side,
+        Edge::Circular => circular_moves(side, k),
     }
 }
 

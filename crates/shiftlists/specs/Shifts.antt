@@ -3,7 +3,7 @@ use Prim.Native.Nat.{ℕ, suc, _-_}
 use mathlib.Core.Bool.{Bool, cond, _&&_}
 use mathlib.Core.List.{List, _∷_}
 use lib.IntN.{ℤ, pos, negsuc}
-use lib.Dec.{ltb}
+use lib.Dec.{ltb, eqb}
 use lib.ListN.{replicate}
 use Rattle.array.specs.declared.moves.Way.{Way}
 use Rattle.array.specs.declared.moves.Way.the-variants.{Right, Down}
@@ -29,6 +29,14 @@ within s k = ltb (k .forth) s && ltb (k .back) s
 abbrev pub modulo : ℕ → Distance → ℕ
 modulo s k = cond (ltb 0 (k .back)) (s - k .back) (k .forth)
 
+-- k = 0
+abbrev pub isNothing : Distance → Bool
+isNothing k = eqb (k .forth) 0 && eqb (k .back) 0
+
+-- how many electronic moves a circular shift has: none by nothing, else as many as the side
+abbrev pub circularMoves : ℕ → Distance → ℕ
+circularMoves s k = cond (isNothing k) 0 s
+
 -- how many moves go forth and how many back
 abbrev pub forthMoves : Edge → ℕ → Distance → ℕ
 forthMoves ZeroFill s k = k .forth
@@ -36,7 +44,7 @@ forthMoves Circular s k = modulo s k
 
 abbrev pub backMoves : Edge → ℕ → Distance → ℕ
 backMoves ZeroFill s k = k .back
-backMoves Circular s k = s - modulo s k
+backMoves Circular s k = circularMoves s k - modulo s k
 
 -- a shift of a row, of a mesh or of groups, goes right and left, and one of a column down and up
 abbrev pub forthWay : Axis → Way

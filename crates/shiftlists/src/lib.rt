@@ -10,7 +10,7 @@ ghost use mathlib.Core.Path.{_≡_};
 ghost use Prim.Native.Nat.{_≤_};
 ghost use Rattle.runs.specs.Runs.{along as alongOf, swapping as swappingOf};
 ghost use Rattle.shiftlists.specs.Cases.{distanceCase};
-ghost use Rattle.shiftlists.specs.Shifts.{distanceOf, within, modulo as moduloOf, forthMoves, backMoves, forthWay, swapsOf, shiftList, shiftRuns};
+ghost use Rattle.shiftlists.specs.Shifts.{distanceOf, within, modulo as moduloOf, isNothing, circularMoves, forthMoves, backMoves, forthWay, swapsOf, shiftList, shiftRuns};
 
 // What a shift changes: the column or the row of a cell's place, or of its group.
 pub enum Axis {
@@ -67,6 +67,19 @@ fn modulo(side: usize, k: Distance) -> usize
     if 0 < k.back { side - k.back } else { k.forth }
 }
 
+fn is_nothing(k: Distance) -> bool
+    ensures { λ r. ⌜ r ≡ isNothing k ⌝ }
+{
+    k.forth == 0 && k.back == 0
+}
+
+// A row has no cell as far away as the side, so a shift by nothing makes no move.
+pub fn circular_moves(side: usize, k: Distance) -> usize
+    ensures { λ r. ⌜ r ≡ circularMoves side k ⌝ }
+{
+    if is_nothing(k) { 0 } else { side }
+}
+
 fn forth_moves(edge: Edge, side: usize, k: Distance) -> usize
     requires { ⌜ (k .back ≤ side) × (k .forth ≤ side) ⌝ }
     ensures { λ r. ⌜ r ≡ forthMoves edge side k ⌝ }
@@ -83,7 +96,7 @@ fn back_moves(edge: Edge, side: usize, k: Distance) -> usize
 {
     match edge {
         Edge::ZeroFill => k.back,
-        Edge::Circular => side - modulo(side, k),
+        Edge::Circular => circular_moves(side, k) - modulo(side, k),
     }
 }
 

@@ -18,8 +18,9 @@ use Rattle.shiftlists.specs.declared.Edge.{Edge}
 use Rattle.shiftlists.specs.declared.Edge.the-variants.{ZeroFill, Circular}
 use Rattle.array.specs.Cells.{place, row, column, isBoard}
 use Rattle.array.specs.Moves.{opposite}
-use Rattle.shiftlists.specs.Shifts.{distanceOf, within, modulo, forthMoves, backMoves, shiftRuns}
+use Rattle.shiftlists.specs.Shifts.{distanceOf, within, forthMoves, backMoves, shiftRuns}
 use Rattle.array.proofs.Board.{place-of}
+use Rattle.shiftlists.proofs.Counts.{circular-few, modulo-circular}
 use Rattle.light.specs.Lane.{swappedLane}
 use Rattle.sums.specs.declared.Combining.the-variants.{Take}
 use Rattle.lanes.specs.declared.Joining.the-variants.{Fill}
@@ -75,20 +76,15 @@ module _ (s : ℕ) (axis : Axis) (edge : Edge) (k : ℤ) (runs : List Run) (d : 
   pub home-times : getD runs 2 d .times ≡ backMoves edge s (distanceOf k)
   home-times = rw (e, near)
 
-modulo-few : (s : ℕ) (k : Distance) → within s k ≡ true → modulo s k ≤ s
-modulo-few s k h = go (ltb 0 (k .back)) refl
-  where
-    go : (t : Bool) → ltb 0 (k .back) ≡ t → modulo s k ≤ s
-    go true e = rw e (omega arith)
-    go false e = rw e (omega (arith, ltb-true (k .forth) s (both-left (ltb (k .forth) s) (ltb (k .back) s) h)))
-
 pub forth-few : (s : ℕ) (edge : Edge) (k : Distance) → within s k ≡ true → forthMoves edge s k ≤ s
 forth-few s ZeroFill k h = omega (arith, ltb-true (k .forth) s (both-left (ltb (k .forth) s) (ltb (k .back) s) h))
-forth-few s Circular k h = modulo-few s k h
+forth-few s Circular k h =
+    let near = ltb-true (k .forth) s (both-left (ltb (k .forth) s) (ltb (k .back) s) h) in
+    omega (arith, modulo-circular s k (omega (arith, near)), circular-few s k)
 
 pub back-few : (s : ℕ) (edge : Edge) (k : Distance) → within s k ≡ true → backMoves edge s k ≤ s
 back-few s ZeroFill k h = omega (arith, ltb-true (k .back) s (both-right (ltb (k .forth) s) (ltb (k .back) s) h))
-back-few s Circular k h = omega arith
+back-few s Circular k h = omega (arith, circular-few s k)
 
 pub shift-done : (s : ℕ) (axis : Axis) (edge : Edge) (k : ℤ) (l l′ : List ℕ) → isBoard s (length l) ≡ true → within s (distanceOf k) ≡ true
     → Moves s (shiftOn s axis edge (forthMoves edge s (distanceOf k)) (backMoves edge s (distanceOf k))) l l′ → l′ ≡ shiftLane s axis edge k l

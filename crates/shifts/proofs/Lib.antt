@@ -1,3 +1,4 @@
+pub mod ByNothing
 pub mod Composing
 pub mod Registers
 pub mod Shifting

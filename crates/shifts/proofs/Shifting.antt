@@ -19,7 +19,8 @@ use Rattle.shiftlists.specs.declared.Edge.the-variants.{ZeroFill, Circular}
 use Rattle.array.specs.Moves.{opposite}
 use Rattle.runs.specs.Runs.{moves, along}
 use Rattle.shiftlists.specs.declared.Distance.{Distance}
-use Rattle.shiftlists.specs.Shifts.{distanceOf, within, modulo, forthMoves, backMoves, shiftList}
+use Rattle.shiftlists.specs.Shifts.{distanceOf, within, modulo, isNothing, forthMoves, backMoves, shiftList}
+use Rattle.shiftlists.proofs.Counts.{modulo-nothing}
 use Rattle.lanes.specs.Machine.{State, Stage, fromBefore, fromAfter, ran, all, stageRuns, load, unload}
 use Rattle.lanes.specs.Stages.{position, filled}
 use Rattle.shifts.specs.Programs.{Shifting, loadShift, forth, takesBack, back, shift, shiftedBy}
@@ -170,8 +171,14 @@ module _ (s : ℕ) (f : ℕ → ℕ) (p : ℕ) (p-in : p < s) where
       go : Dec (p + suc n < s) → shiftedBack s (suc n) f p ≡ wordFrom f (cameFrom ZeroFill s (distanceOf (negsuc n)) p)
       go (yes l) = rw (q, le-ltb (p + suc n) 0 (omega arith), lt-ltb (p + suc n) s l)
       go (no l) = rw (q, le-ltb (p + suc n) 0 (omega arith), le-ltb (p + suc n) s (omega arith))
-  line-shifted Circular k h =
-      rw (lt-ltb 0 (s - modulo s (distanceOf k)) (omega (arith, modulo-in k h))) (turned (modulo s (distanceOf k)) (modulo-in k h))
+  line-shifted Circular k h = go (isNothing (distanceOf k)) refl
+    where
+      go : (t : Bool) → isNothing (distanceOf k) ≡ t → lineShift Circular (distanceOf k) ≡ wordFrom f (cameFrom Circular s (distanceOf k) p)
+      go true e =
+          let here = le-ltb p 0 (omega arith) in
+          rw (modulo-nothing s (distanceOf k) e, e, here) (rw here at (turned 0 (omega (arith, p-in))))
+      go false e =
+          rw (e, lt-ltb 0 (s - modulo s (distanceOf k)) (omega (arith, modulo-in k h))) (turned (modulo s (distanceOf k)) (modulo-in k h))
 
 -- each word goes where it is to go
 mesh-row : (s : ℕ) (edge : Edge) (k : ℤ) (σ : State ℕ) → within s (distanceOf k) ≡ true → (c d a b : ℕ) → b < s

@@ -15,11 +15,11 @@ use Rattle.shiftlists.specs.declared.Distance.{Distance}
 use Rattle.array.specs.Cells.{isSide, isCell}
 use Rattle.runs.specs.Runs.{electronic}
 use Rattle.lists.specs.Lists.{broadcastList, broadcastRuns, dataSumRuns, prefixSumRuns}
-use Rattle.shiftlists.specs.Shifts.{distanceOf, within, forthMoves, backMoves, swapsOf, shiftList, shiftRuns}
+use Rattle.shiftlists.specs.Shifts.{distanceOf, within, circularMoves, forthMoves, backMoves, swapsOf, shiftList, shiftRuns}
 use Rattle.answers.specs.Answers.{accepted, acceptedBy}
 use Rattle.array.proofs.Board.{side-known, cell-known}
 use Rattle.lists.proofs.Counts.{data-sum-electronic, prefix-sum-electronic, broadcast-electronic}
-use Rattle.shiftlists.proofs.Counts.{zero-fill-electronic, circular-electronic, shift-swaps}
+use Rattle.shiftlists.proofs.Counts.{zero-fill-electronic, circular-few, circular-electronic, shift-swaps}
 use Rattle.answers.proofs.Verdicts.{counted}
 
 pub broadcast-counts : (s i : ℕ) → isCell s i ≡ true → acceptedBy (broadcastRuns s i) ≡ accepted (4 * (s - 1)) 1
@@ -39,7 +39,7 @@ prefix-sum-counts s h = counted (prefixSumRuns s) (7 * (s - 1)) 2 (prefix-sum-el
 -- how many electronic moves a shift makes
 abbrev pub shiftElectronic : Edge → ℕ → Distance → ℕ
 shiftElectronic ZeroFill s k = k .forth + k .back
-shiftElectronic Circular s k = s
+shiftElectronic Circular s k = circularMoves s k
 
 shift-electronic : (s : ℕ) (axis : Axis) (edge : Edge) (k : Distance) → within s k ≡ true
     → electronic (shiftList axis (forthMoves edge s k) (backMoves edge s k)) ≡ shiftElectronic edge s k
@@ -51,7 +51,7 @@ shift-few s ZeroFill k m h =
     let forth = ltb-true (k .forth) s (both-left (ltb (k .forth) s) (ltb (k .back) s) h) in
     let back = ltb-true (k .back) s (both-right (ltb (k .forth) s) (ltb (k .back) s) h) in
     omega (arith, forth, back)
-shift-few s Circular k m h = omega arith
+shift-few s Circular k m h = omega (arith, circular-few s k)
 
 swaps-few : (axis : Axis) → 2 * swapsOf axis < 2 ^ 64
 swaps-few MeshRow = omega arith

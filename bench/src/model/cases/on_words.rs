@@ -107,8 +107,10 @@ pub fn refused() -> String {
         lengths(Shift(Line::MeshRow, Edge::ZeroFill, 1), 1),
         lengths(Shift(Line::GroupColumn, Edge::Circular, 1), 4),
     ];
+    let by_nothing = [1, 2, 8].map(circular_by_nothing);
     let stretches = stretch_run(2, 0, 15) + &stretch_run(2, 4, 17);
-    tried.concat() + &far_arguments() + &stretches + &[0, 9, usize::MAX].map(refused_side).concat()
+    let refused_sides = [0, 9, usize::MAX].map(refused_side);
+    tried.concat() + &by_nothing.concat() + &far_arguments() + &stretches + &refused_sides.concat()
 }
 
 /// The words of the sums come near 2³², and so their sums pass it.
@@ -140,6 +142,13 @@ fn broadcast_cells(board: Board) -> [usize; 5] {
 fn lengths(operation: Operation, moves: usize) -> String {
     let sized = |(lane, log)| run(operation, 2, counted(1, lane), log);
     [(15, moves), (17, 0), (16, 0), (16, moves - 1), (16, moves), (16, moves + 1)].map(sized).concat()
+}
+
+/// Logs of no, one and two entries: on a mesh there is no move to log, on groups the two swaps.
+fn circular_by_nothing(side: usize) -> String {
+    let cells = Board { side }.cells();
+    let logged = |line, log| run(Shift(line, Edge::Circular, 0), side, counted(1, cells), log);
+    LINES.map(|line| [0, 1, 2].map(|log| logged(line, log)).concat()).concat()
 }
 
 /// Arguments far past the last, whose list counts as empty, so that no log is too short for it.

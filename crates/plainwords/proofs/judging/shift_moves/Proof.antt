@@ -12,12 +12,15 @@ wrapping-add-usize-requires c κs = search needs
 enum-told-2 : tie.Need-enum-told-2
 enum-told-2 c = search needs
 
+circular-moves-requires : tie.Need-circular-moves-requires
+circular-moves-requires c κs = search needs
+
 returns : tie.Need-returns
 returns c = rw (c .before .enum-told .given .1) (c .wrapping-add-usize .ensures)
 
 returns-2 : tie.Need-returns-2
-returns-2 c = search needs
+returns-2 c = rw (c .before .enum-told2 .given .1) (c .circular-moves .ensures)
 
 pub shift-moves-spec : {M : Type 1} → statement M
 shift-moves-spec =
-    tie.close (tie.spec enum-told wrapping-add-usize-requires enum-told-2 returns returns-2)
+    tie.close (tie.spec enum-told wrapping-add-usize-requires enum-told-2 circular-moves-requires returns returns-2)
