@@ -6,9 +6,7 @@ use mathlib.Core.List.{List, [], _∷_}
 use native.Mathlib.Nat.{mod-eq-of-lt}
 use native.Mathlib.Omega.{arith}
 use lib.IntN.{ℤ}
-use lib.Dec.{ltb}
-use borrow.Author.Tests.{not-false, ltb-true}
-use Rattle.laws.proofs.Bools.{both-left, both-right}
+use borrow.Author.Tests.{not-false}
 use Rattle.answers.specs.declared.Answer.{Answer}
 use Rattle.answers.specs.declared.Case.{Case}
 use Rattle.shiftlists.specs.declared.Axis.{Axis}
@@ -21,6 +19,7 @@ use Rattle.shiftlists.specs.Cases.{distanceCase}
 use Rattle.shiftlists.specs.Shifts.{distanceOf, within, swapsOf, shiftRuns}
 use Rattle.answers.specs.Answers.{accepted, acceptedBy, verdict, sideCase, laneCase, cellCase}
 use Rattle.array.proofs.Board.{side-known}
+use Rattle.shiftlists.proofs.Within.{within-known}
 use Rattle.answers.proofs.Verdicts.{NoneApplies, side-built}
 use Rattle.words.proofs.Counts.{broadcast-counts, data-sum-counts, prefix-sum-counts, shiftElectronic, shift-counts}
 use Rattle.plainwords.specs.Inside.{shiftMoves}
@@ -58,10 +57,7 @@ prefix-sum-answer s {total} {moves} e m t side =
     e ∙ ap (λ (k : ℕ). accepted k 2) electronic ∙ sym (prefix-sum-counts s side)
 
 shift-moves-are : (edge : Edge) (s : ℕ) (k : Distance) → s ≤ 8 → within s k ≡ true → shiftMoves edge s k ≡ shiftElectronic edge s k
-shift-moves-are ZeroFill s k h near =
-    let forth = ltb-true (k .forth) s (both-left (ltb (k .forth) s) (ltb (k .back) s) near) in
-    let back = ltb-true (k .back) s (both-right (ltb (k .forth) s) (ltb (k .back) s) near) in
-    mod-eq-of-lt (omega (arith, forth, back))
+shift-moves-are ZeroFill s k h near = mod-eq-of-lt (omega (arith, within-known s k near))
 shift-moves-are Circular s k h near = refl
 
 pub shift-answer : (s : ℕ) (axis : Axis) (edge : Edge) (k : ℤ) {d : Distance} {moves swaps : ℕ} {a : Answer} → a ≡ accepted moves swaps → moves ≡ shiftMoves edge s d

@@ -12,7 +12,6 @@ use lib.Arith.{digits-lt}
 use lib.Dec.{ltb}
 use lib.ListN.{length, getD, List·getD-eq-default}
 use Rattle.laws.specs.Tables.{entries}
-use Rattle.laws.proofs.Bools.{both-left, both-right}
 use Rattle.laws.proofs.Deciding.{apart}
 use Rattle.laws.proofs.Tables.{length-entries, entry-at}
 use Rattle.shiftlists.specs.declared.Axis.{Axis}
@@ -23,6 +22,7 @@ use Rattle.shiftlists.specs.declared.Distance.{Distance}
 use Rattle.array.specs.Cells.{isSide, cells}
 use Rattle.array.proofs.Board.{side-known}
 use Rattle.shiftlists.specs.Shifts.{modulo, within}
+use Rattle.shiftlists.proofs.Within.{within-known}
 use Rattle.lanes.specs.Machine.{at, load, unload}
 use Rattle.lanes.specs.Inside.{FitsBoard}
 use Rattle.lanes.proofs.Coordinates.{place<, unloaded}
@@ -34,8 +34,8 @@ pub near-known : {s : ℕ} {k : Distance} → isSide s ≡ true → within s k �
 near-known {s} {k} side h = record {
   least = side-known s side .least;
   most = side-known s side .most;
-  forth = ltb-true (k .forth) s (both-left (ltb (k .forth) s) (ltb (k .back) s) h);
-  back = ltb-true (k .back) s (both-right (ltb (k .forth) s) (ltb (k .back) s) h);
+  forth = within-known s k h .forth;
+  back = within-known s k h .back;
 }
 
 -- a position that a word comes from is one of the line

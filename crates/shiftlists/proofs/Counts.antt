@@ -4,13 +4,14 @@ use mathlib.Core.Path.{_≡_, refl}
 use mathlib.Core.Bool.{Bool, true, false, cond}
 use native.Mathlib.Omega.{arith}
 use lib.Dec.{ltb, eqb}
-use borrow.Author.Tests.{ltb-true, eqb-true}
+use borrow.Author.Tests.{eqb-true}
 use Rattle.laws.proofs.Bools.{both-left, both-right}
 use Rattle.shiftlists.specs.declared.Axis.{Axis}
 use Rattle.shiftlists.specs.declared.Edge.the-variants.{ZeroFill, Circular}
 use Rattle.shiftlists.specs.declared.Distance.{Distance}
 use Rattle.runs.specs.Runs.{electronic, swaps}
 use Rattle.shiftlists.specs.Shifts.{within, modulo, isNothing, circularMoves, forthMoves, backMoves, swapsOf, shiftList}
+use Rattle.shiftlists.proofs.Within.{within-known}
 
 -- the moves of a circular shift, and how many of them go forth
 module _ (s : ℕ) (k : Distance) where
@@ -53,6 +54,4 @@ module _ (s : ℕ) (axis : Axis) (k : Distance) where
   forth-and-rest m n h = omega arith
 
   pub circular-electronic : within s k ≡ true → electronic (shiftList axis (forthMoves Circular s k) (backMoves Circular s k)) ≡ circularMoves s k
-  circular-electronic h =
-      let forth = ltb-true (k .forth) s (both-left (ltb (k .forth) s) (ltb (k .back) s) h) in
-      forth-and-rest (modulo s k) (circularMoves s k) (modulo-circular s k (omega (arith, forth)))
+  circular-electronic h = forth-and-rest (modulo s k) (circularMoves s k) (modulo-circular s k (omega (arith, within-known s k h)))

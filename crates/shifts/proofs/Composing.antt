@@ -1,15 +1,12 @@
 -- How the parts of the code make up a shift.
 use Prim.Native.Nat.{ℕ, _+_, _*_, _≤_, _<_}
-use mathlib.Core.Path.{_≡_, refl, sym, ap, ap₂, _∙_}
-use mathlib.Core.Bool.{Bool, true, false, cond}
+use mathlib.Core.Path.{_≡_, sym, ap, ap₂, _∙_}
+use mathlib.Core.Bool.{Bool, true, cond}
 use mathlib.Core.List.{List}
 use native.Mathlib.Omega.{arith}
 use lib.Arith.{digits-div, digits-mod}
-use lib.Dec.{ltb}
 use lib.IntN.{ℤ}
 use lib.ListN.{length, getD}
-use borrow.Author.Tests.{ltb-true}
-use Rattle.laws.proofs.Bools.{both-left, both-right}
 use Rattle.runs.specs.declared.Run.{Run}
 use Rattle.array.specs.declared.moves.Way.{Way}
 use Rattle.shiftlists.specs.declared.Axis.{Axis}
@@ -21,6 +18,7 @@ use Rattle.array.specs.Moves.{opposite}
 use Rattle.shiftlists.specs.Shifts.{distanceOf, within, forthMoves, backMoves, shiftRuns}
 use Rattle.array.proofs.Board.{place-of}
 use Rattle.shiftlists.proofs.Counts.{circular-few, modulo-circular}
+use Rattle.shiftlists.proofs.Within.{within-known}
 use Rattle.light.specs.Lane.{swappedLane}
 use Rattle.sums.specs.declared.Combining.the-variants.{Take}
 use Rattle.lanes.specs.declared.Joining.the-variants.{Fill}
@@ -77,13 +75,11 @@ module _ (s : ℕ) (axis : Axis) (edge : Edge) (k : ℤ) (runs : List Run) (d : 
   home-times = rw (e, near)
 
 pub forth-few : (s : ℕ) (edge : Edge) (k : Distance) → within s k ≡ true → forthMoves edge s k ≤ s
-forth-few s ZeroFill k h = omega (arith, ltb-true (k .forth) s (both-left (ltb (k .forth) s) (ltb (k .back) s) h))
-forth-few s Circular k h =
-    let near = ltb-true (k .forth) s (both-left (ltb (k .forth) s) (ltb (k .back) s) h) in
-    omega (arith, modulo-circular s k (omega (arith, near)), circular-few s k)
+forth-few s ZeroFill k h = omega (arith, within-known s k h)
+forth-few s Circular k h = omega (arith, modulo-circular s k (omega (arith, within-known s k h)), circular-few s k)
 
 pub back-few : (s : ℕ) (edge : Edge) (k : Distance) → within s k ≡ true → backMoves edge s k ≤ s
-back-few s ZeroFill k h = omega (arith, ltb-true (k .back) s (both-right (ltb (k .forth) s) (ltb (k .back) s) h))
+back-few s ZeroFill k h = omega (arith, within-known s k h)
 back-few s Circular k h = omega (arith, circular-few s k)
 
 pub shift-done : (s : ℕ) (axis : Axis) (edge : Edge) (k : ℤ) (l l′ : List ℕ) → isBoard s (length l) ≡ true → within s (distanceOf k) ≡ true

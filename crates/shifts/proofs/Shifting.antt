@@ -8,8 +8,7 @@ use native.Mathlib.Decide.{decLt}
 use native.Mathlib.Nat.{add-mod-right, mod-eq-of-lt}
 use lib.IntN.{ℤ, pos, negsuc}
 use lib.Dec.{ltb}
-use borrow.Author.Tests.{lt-ltb, le-ltb, ltb-true}
-use Rattle.laws.proofs.Bools.{both-left}
+use borrow.Author.Tests.{lt-ltb, le-ltb}
 use Rattle.array.specs.declared.moves.Way.{Way}
 use Rattle.array.specs.declared.moves.Way.the-variants.{Right, Left, Up, Down}
 use Rattle.shiftlists.specs.declared.Axis.{Axis}
@@ -21,6 +20,7 @@ use Rattle.runs.specs.Runs.{moves, along}
 use Rattle.shiftlists.specs.declared.Distance.{Distance}
 use Rattle.shiftlists.specs.Shifts.{distanceOf, within, modulo, isNothing, forthMoves, backMoves, shiftList}
 use Rattle.shiftlists.proofs.Counts.{modulo-nothing}
+use Rattle.shiftlists.proofs.Within.{within-known}
 use Rattle.lanes.specs.Machine.{State, Stage, fromBefore, fromAfter, ran, all, stageRuns, load, unload}
 use Rattle.lanes.specs.Stages.{position, filled}
 use Rattle.shifts.specs.Programs.{Shifting, loadShift, forth, takesBack, back, shift, shiftedBy}
@@ -148,7 +148,7 @@ module _ (s : ℕ) (f : ℕ → ℕ) (p : ℕ) (p-in : p < s) where
           rw (le-ltb p m (omega arith), q, add-mod-right (p - m) s) (ap f (sym (mod-eq-of-lt (omega arith))))
 
   modulo-in : (k : ℤ) → within s (distanceOf k) ≡ true → modulo s (distanceOf k) < s
-  modulo-in (pos n) h = ltb-true n s (both-left (ltb n s) (ltb 0 s) h)
+  modulo-in (pos n) h = within-known s (distanceOf (pos n)) h .forth
   modulo-in (negsuc n) h = rw (lt-ltb 0 (suc n) (omega arith)) (omega arith)
 
   abbrev lineShift : Edge → Distance → ℕ

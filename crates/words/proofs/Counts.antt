@@ -4,9 +4,6 @@ use mathlib.Core.Path.{_≡_, refl, ap, _∙_}
 use mathlib.Core.Bool.{true}
 use native.Mathlib.Omega.{arith}
 use lib.IntN.{ℤ}
-use lib.Dec.{ltb}
-use borrow.Author.Tests.{ltb-true}
-use Rattle.laws.proofs.Bools.{both-left, both-right}
 use Rattle.shiftlists.specs.declared.Axis.{Axis}
 use Rattle.shiftlists.specs.declared.Axis.the-variants.{MeshRow, MeshColumn, GroupRow, GroupColumn}
 use Rattle.shiftlists.specs.declared.Edge.{Edge}
@@ -20,6 +17,7 @@ use Rattle.answers.specs.Answers.{accepted, acceptedBy}
 use Rattle.array.proofs.Board.{side-known, cell-known}
 use Rattle.lists.proofs.Counts.{data-sum-electronic, prefix-sum-electronic, broadcast-electronic}
 use Rattle.shiftlists.proofs.Counts.{zero-fill-electronic, circular-few, circular-electronic, shift-swaps}
+use Rattle.shiftlists.proofs.Within.{within-known}
 use Rattle.answers.proofs.Verdicts.{counted}
 
 pub broadcast-counts : (s i : ℕ) → isCell s i ≡ true → acceptedBy (broadcastRuns s i) ≡ accepted (4 * (s - 1)) 1
@@ -47,10 +45,7 @@ shift-electronic s axis ZeroFill k h = zero-fill-electronic s axis k
 shift-electronic s axis Circular k h = circular-electronic s axis k h
 
 shift-few : (s : ℕ) (edge : Edge) (k : Distance) → s ≤ 8 → within s k ≡ true → shiftElectronic edge s k < 2 ^ 64
-shift-few s ZeroFill k m h =
-    let forth = ltb-true (k .forth) s (both-left (ltb (k .forth) s) (ltb (k .back) s) h) in
-    let back = ltb-true (k .back) s (both-right (ltb (k .forth) s) (ltb (k .back) s) h) in
-    omega (arith, forth, back)
+shift-few s ZeroFill k m h = omega (arith, within-known s k h)
 shift-few s Circular k m h = omega (arith, circular-few s k)
 
 swaps-few : (axis : Axis) → 2 * swapsOf axis < 2 ^ 64

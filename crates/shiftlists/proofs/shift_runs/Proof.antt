@@ -7,15 +7,14 @@ use mir.Syntax.{w32}
 use mir.ValLaws.{toZ-ofZ}
 use mathlib.Core.Bool.{true, false}
 use native.Mathlib.Omega.{arith}
-use lib.Dec.{ltb}
-use borrow.Author.Tests.{ltb-true}
-use Rattle.laws.proofs.Bools.{both-left, both-right, failed, passed}
+use Rattle.laws.proofs.Bools.{failed, passed}
 use Rattle.runs.specs.declared.Run.{Run}
 use Rattle.shiftlists.specs.declared.Axis.{Axis}
 use Rattle.shiftlists.specs.declared.Edge.{Edge}
 use Rattle.shiftlists.specs.declared.Distance.{Distance}
 use Rattle.runs.specs.Runs.{noRuns}
 use Rattle.shiftlists.specs.Shifts.{distanceOf, within, forthMoves, backMoves, shiftList, shiftBy, shiftRuns}
+use Rattle.shiftlists.proofs.Within.{within-known}
 use borrow.Author.Needs.{needs}
 use Rattle.shiftlists.proofs.shift_runs.Statement.{statement}
 use Rattle.shiftlists.proofs.shift_runs.Tie as tie
@@ -34,8 +33,7 @@ inside c =
     let s = c .before .before .before .args .side in
     let d = c .before .before .distance-of .result in
     let t : within s d ≡ true = passed (c .before .is-within .ensures) (c .if1 .left) in
-    let f = ltb-true (d .forth) s (both-left (ltb (d .forth) s) (ltb (d .back) s) t) in
-    let b = ltb-true (d .back) s (both-right (ltb (d .forth) s) (ltb (d .back) s) t) in
+    let near = within-known s d t in
     (omega arith, omega arith)
 
 distance-of-requires : tie.Need-distance-of-requires
