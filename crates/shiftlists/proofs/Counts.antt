@@ -42,7 +42,7 @@ module _ (s : ℕ) (k : Distance) where
       go true e = rw (modulo-nothing e) (omega arith)
       go false e = rw e (modulo-few h)
 
--- a shift by k: |k| electronic moves where it fills with zero; two swaps where it moves groups
+-- a shift by k: |k| electronic moves where it fills with zero, and where it is circular the side or none; two swaps where it moves groups
 module _ (s : ℕ) (axis : Axis) (k : Distance) where
   pub shift-swaps : (forth back : ℕ) → swaps (shiftList axis forth back) ≡ 2 * swapsOf axis
   shift-swaps forth back = omega arith
