@@ -1,0 +1,3 @@
+pub mod Captures
+pub mod Replays
+pub mod Inside
