@@ -1,2 +1,5 @@
 pub mod Listed
 pub mod Starting
+pub mod Telling
+pub mod Resolving
+pub mod Walking

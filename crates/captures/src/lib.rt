@@ -1,5 +1,6 @@
 // Replaying a captured run of concentrate: the first move at which it leaves the rule.
 mod state;
+mod walk;
 
 
 // A record as a capture has it: its cell, its slot (0 front, 1 spare), its word and its aim.

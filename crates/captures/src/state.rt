@@ -23,8 +23,8 @@ pub(crate) struct Start {
 
 // Records in their order, at most two of each cell.
 pub(crate) struct Records {
-    list: [Held; 162],
-    count: usize,
+    pub list: [Held; 162],
+    pub count: usize,
 }
 
 pub(crate) fn no_records() -> Records
