@@ -12,4 +12,6 @@ pub mod job;
 pub mod moves;
 pub mod plain;
 pub mod records;
+pub mod replay;
+pub mod text;
 pub mod words;

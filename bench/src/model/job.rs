@@ -4,9 +4,8 @@ use super::answers::{judge_side, refuse, Answer, Judged, Refusal};
 use super::board::Board;
 use super::moves;
 use super::records::{self, Lanes, Lent};
+use super::text::{number, Lines, LONGEST};
 use super::words;
-
-const LONGEST: usize = 65_536;
 
 /// A job that nothing refuses: the marked cells, rising, each with its word.
 pub struct Job {
@@ -26,44 +25,28 @@ pub fn parse(input: &[u8]) -> Judged<Job> {
     if input.len() > LONGEST {
         return refuse(8, 0);
     }
-    let mut lines = Lines { rest: input, number: 0 };
+    let mut lines = Lines::of(input);
     let board = parse_side(&mut lines)?;
     let mut marked: Vec<(usize, u32)> = Vec::new();
-    while !lines.rest.is_empty() {
-        let (cell, word) = lines.next_line().and_then(cell_line).ok_or(lines.bad())?;
+    while !lines.ended() {
+        let (cell, word) = lines.next_line().and_then(cell_line).ok_or(bad(&lines))?;
         let rises = marked.last().is_none_or(|&(before, _)| cell > before);
         if cell >= board.cells() || !rises {
-            return Err(lines.bad());
+            return Err(bad(&lines));
         }
         marked.push((cell, word));
     }
     Ok(Job { board, marked })
 }
 
-/// The input line by line, with the number of the line that was read last.
-struct Lines<'a> {
-    rest: &'a [u8],
-    number: usize,
-}
-
-impl<'a> Lines<'a> {
-    /// The next line without its LF; none if it does not end in one.
-    fn next_line(&mut self) -> Option<&'a [u8]> {
-        self.number += 1;
-        let end = self.rest.iter().position(|&byte| byte == b'\n')?;
-        let line = &self.rest[..end];
-        self.rest = &self.rest[end + 1..];
-        Some(line)
-    }
-
-    fn bad(&self) -> Refusal {
-        Refusal { number: 8, place: self.number }
-    }
+/// The line that was read last, refused.
+fn bad(lines: &Lines) -> Refusal {
+    Refusal { number: 8, place: lines.number }
 }
 
 fn parse_side(lines: &mut Lines) -> Judged<Board> {
     let line = lines.next_line();
-    let side = line.and_then(side_line).ok_or(lines.bad())?;
+    let side = line.and_then(side_line).ok_or(bad(lines))?;
     judge_side(side)
 }
 
@@ -86,27 +69,12 @@ fn fields(line: &[u8]) -> Option<(&[u8], &[u8])> {
     Some((&line[..tab], &line[tab + 1..]))
 }
 
-/// Decimal up to 4,294,967,295, with no leading zero.
-fn number(digits: &[u8]) -> Option<u32> {
-    if digits.is_empty() || (digits[0] == b'0' && digits.len() > 1) {
-        return None;
-    }
-    let mut value: u32 = 0;
-    for &digit in digits {
-        if !digit.is_ascii_digit() {
-            return None;
-        }
-        value = value.checked_mul(10)?.checked_add((digit - b'0') as u32)?;
-    }
-    Some(value)
-}
-
-fn refused_printed(refusal: Refusal) -> String {
+pub(super) fn refused_printed(refusal: Refusal) -> String {
     format!("refused\t{}\t{}\n", refusal.number, refusal.place)
 }
 
 /// The front lanes of a job, ranked.
-fn ranked(job: &Job) -> Lanes {
+pub fn ranked(job: &Job) -> Lanes {
     let mut front = Lanes::empty(job.board.cells());
     for &(cell, word) in &job.marked {
         front.words[cell] = word;

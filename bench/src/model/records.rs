@@ -217,7 +217,7 @@ fn judge_cut_run(operation: Operation, side: usize, front: &Lanes, spare: &Lanes
 }
 
 /// Refusals 5 and 6. The spare lanes are never looked at.
-fn judge_records(operation: Operation, board: Board, front: &Lanes) -> Judged<()> {
+pub(super) fn judge_records(operation: Operation, board: Board, front: &Lanes) -> Judged<()> {
     judge_marks(&front.marks)?;
     match operation {
         Operation::Concentrate => judge_ranks(front),
