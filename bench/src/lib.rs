@@ -7,3 +7,4 @@ pub mod fence;
 pub mod frames;
 pub mod model;
 pub mod servers;
+pub mod texts;

@@ -6,6 +6,7 @@
 use otis_bench::frames::{self, Dice, KINDS};
 use otis_bench::model::board::Board;
 use otis_bench::model::job;
+use otis_bench::texts;
 use std::io::Write;
 use std::process::{Child, ChildStdin, Command, ExitCode, Stdio};
 
@@ -76,57 +77,27 @@ fn main() -> ExitCode {
 }
 
 fn all_texts(dice: &mut Dice) -> Vec<Vec<u8>> {
-    let mut texts: Vec<Vec<u8>> = EDGES.iter().map(|text| text.as_bytes().to_vec()).collect();
+    let mut all: Vec<Vec<u8>> = EDGES.iter().map(|text| text.as_bytes().to_vec()).collect();
     for length in [65_535, 65_536, 65_537, 70_000, 200_000] {
-        texts.push(padded("side\t2\n", length));
-        texts.push(padded("side\t9\n", length));
-        texts.push(padded("x", length));
+        all.push(texts::padded("side\t2\n", length));
+        all.push(texts::padded("side\t9\n", length));
+        all.push(texts::padded("x", length));
     }
     for round in 0..RANDOM_JOBS {
         let mut text = whole_job(dice);
         for _ in 0..round % 3 {
-            damage(&mut text, dice);
+            texts::damage(&mut text, dice);
         }
-        texts.push(text);
+        all.push(text);
     }
-    texts
-}
-
-/// A text of that length, its rest one line that is none.
-fn padded(start: &str, length: usize) -> Vec<u8> {
-    let mut text = start.as_bytes().to_vec();
-    text.resize(length, b'7');
-    text
+    all
 }
 
 fn whole_job(dice: &mut Dice) -> Vec<u8> {
     let board = Board { side: 1 + dice.below(8) };
     let kind = KINDS[dice.below(KINDS.len())];
     let marked = frames::marks(board, kind, dice);
-    let mut text = format!("side\t{}\n", board.side);
-    for cell in (0..board.cells()).filter(|&cell| marked[cell]) {
-        text += &format!("{cell}\t{}\n", dice.word());
-    }
-    text.into_bytes()
-}
-
-/// Changes the text in one place, as often as not near its start, where lines are few.
-fn damage(text: &mut Vec<u8>, dice: &mut Dice) {
-    const BYTES: &[u8] = b"0123456789\t\n\r -+.xs\0\xff";
-    if text.is_empty() {
-        return;
-    }
-    let reach = if dice.one_in(1, 2) { text.len().min(40) } else { text.len() };
-    let at = dice.below(reach);
-    let byte = BYTES[dice.below(BYTES.len())];
-    match dice.below(6) {
-        0 => text[at] = byte,
-        1 => text.insert(at, byte),
-        2 => drop(text.remove(at)),
-        3 => text.truncate(at),
-        4 => text.push(byte),
-        _ => text.extend_from_within(at..reach),
-    }
+    texts::job(board, &marked, dice)
 }
 
 fn run(words: &[String], text: &[u8], dice: &mut Dice) -> Vec<u8> {
