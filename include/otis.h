@@ -1,4 +1,5 @@
-/* Rank, concentrate and distribute of a synchronous SIMD OTIS-Mesh of side 1 to 8.
+/* Rank, concentrate and distribute of a synchronous SIMD OTIS-Mesh of side 1 to 8, and the replay of what a real board did in
+ * concentrate.
  *
  * The functions are in the archive libotis.a, which `make lib` writes. It is for x86-64 Linux and no other machine. They keep
  * nothing between two calls, take no memory and write no file; calls on tables that do not overlap may run at the same time.
@@ -7,9 +8,9 @@
  * START HERE. Compare otis_version() with OTIS_VERSION. Put the arrays into struct otis_front, otis_spare and otis_log, and
  * call otis_rank_board, otis_concentrate_board and otis_distribute_board, or the plain three (otis_plain_rank_board and so
  * on). Look at the answer's number: 0 is accepted. bench/c/frame.c does all of it. docs/MODEL.md tells of the board and its
- * moves.
+ * moves. For a capture of the logic analyser call otis_replay, and look at its outcome.
  *
- * TWO ENGINES. Each operation is there twice, with the same table and the same answer at the end.
+ * TWO ENGINES. Each operation is there twice, with the same table and the same answer at the end. The replay is there once.
  *     stepping    otis_rank, otis_concentrate, otis_distribute make every move of the board and write the move list: for who
  *                 wants the list, which is loaded into the board's sequencer.
  *     plain       otis_plain_rank, otis_plain_concentrate, otis_plain_distribute give the final table at once, make no moves
@@ -23,7 +24,8 @@
  *     marks       0 or 1: whether the cell holds a record
  *     aims        a cell number: where the record goes
  *     spare_*     the same three for a cell's second record during a run. Whatever they hold before a call is never looked
- *                 at; after an accepted call they hold 0 in every entry. The plain functions take them as well.
+ *                 at; after an accepted call they hold 0 in every entry. The plain functions take them as well, the replay
+ *                 does not.
  *
  * LOGS, of the stepping functions alone. A log has one entry for each move, OTIS_MOVES(s) of them. It may be longer; its tail
  * then stays as it was.
@@ -35,8 +37,9 @@
  * nobody else may write them (or read those that the call writes) until it returns.
  *
  * ANSWERS. An accepted call has number 0, place 0 and the numbers of electronic moves and of swaps on the operation's move
- * list, made or not: 7 * (s - 1) and 2. A refused call has its number and place, and both counts 0. A REFUSAL CHANGES NOTHING
- * in any array. Where more than one applies, the lowest number is given:
+ * list, made or not: 7 * (s - 1) and 2. A refused call has its number and place, and both counts 0. The replay answers with an
+ * outcome, and has numbers and places where that is a refusal. A REFUSAL CHANGES NOTHING in any array. Where more than one
+ * applies, the lowest number is given:
  *
  *     number               given exactly when                                              place
  *     OTIS_BAD_SIDE    1   side is not 1 to 8                                              0
@@ -44,8 +47,9 @@
  *     OTIS_SHORT_LOG   3   a log is shorter than OTIS_MOVES(side) (the plain ones never)   0
  *     OTIS_BAD_MARK    5   an entry of marks is neither 0 nor 1                            first such cell
  *     OTIS_BAD_AIM     6   the aims do not fit: see each function (rank never)             first such cell
+ *     OTIS_BAD_CAPTURE 10  the capture is none: see otis_replay (no other function)        first bad line, or 0
  *
- * (4, 7 and 8 belong to operations that are not offered here.)
+ * (4, 7 and 8 belong to operations and texts that are not offered here; no call answers 9.)
  *
  * WHAT IS TRUSTED. The functions are proved to do what is said here on every side and on every array that is as long as its
  * length says. Nothing proves this file: that these declarations name the same parameters, in the same order and of the
@@ -65,13 +69,14 @@ extern "C" {
 
 /* The version of this file: another number means other functions, other parameters or another answer. No linker notices a
  * change of the last two, so compare it with otis_version(), which is the archive's own, before any other call. */
-#define OTIS_VERSION 2
+#define OTIS_VERSION 3
 uint32_t otis_version(void);
 
 /* How many cells a board of that side has: the length of every lane. Only for sides 1 to 8. */
 #define OTIS_CELLS(side) ((size_t)(side) * (size_t)(side) * (size_t)(side) * (size_t)(side))
 
-/* How many moves each of the three operations makes: the least length of every log. Only for sides 1 to 8. */
+/* How many moves each of the three operations makes: the least length of every log, and the most moves of a capture. Only for
+ * sides 1 to 8. */
 #define OTIS_MOVES(side) (7 * ((size_t)(side) - 1) + 2)
 
 /* The greatest of them, those of side 8: for arrays that serve every side. */
@@ -79,12 +84,14 @@ uint32_t otis_version(void);
 #define OTIS_MAX_MOVES 51
 
 /* How many bytes of stack a call takes at most, at any side: for the size of a thread's stack. Measured by painting the stack
- * (bench/c/stack.c): rank takes some 91,000, concentrate and distribute some 10,000. The last number is for each of the plain
- * functions, which keep no table. The tests hold the archive to these numbers. */
+ * (bench/c/stack.c): rank takes some 91,000, concentrate and distribute some 10,000. The plain
+ * number is for each of the plain functions, which keep no table; the last is that of the replay, on the longest captures. The
+ * tests hold the archive to these numbers. */
 #define OTIS_RANK_STACK 98304
 #define OTIS_CONCENTRATE_STACK 16384
 #define OTIS_DISTRIBUTE_STACK 16384
 #define OTIS_PLAIN_STACK 1024
+#define OTIS_REPLAY_STACK 32768
 
 /* The entries of codes. */
 enum otis_code {
@@ -102,7 +109,8 @@ enum otis_number {
     OTIS_BAD_LANE = 2,
     OTIS_SHORT_LOG = 3,
     OTIS_BAD_MARK = 5,
-    OTIS_BAD_AIM = 6
+    OTIS_BAD_AIM = 6,
+    OTIS_BAD_CAPTURE = 10
 };
 
 struct otis_answer {
@@ -202,8 +210,57 @@ struct otis_answer otis_plain_distribute(
     uint8_t *spare_marks, size_t spare_marks_length,
     uint16_t *spare_aims, size_t spare_aims_length);
 
-/* The same six functions over arrays put together by name, so that no two of them can be exchanged unseen: front and spare
- * lanes have types of their own. Lengths, refusals and results are those of the functions above. */
+/* What a replay found. */
+enum otis_outcome {
+    OTIS_AGREES = 0,  /* the capture has every move of the list, and nothing in it is not the rule's */
+    OTIS_DIFFERS = 1, /* the board left the rule */
+    OTIS_EARLY = 2,   /* nothing in the capture is not the rule's, but moves of the list are missing at its end */
+    OTIS_REFUSED = 3  /* nothing was compared */
+};
+
+struct otis_replayed {
+    size_t outcome; /* one of otis_outcome */
+    size_t move;    /* the move that differs, or the last one of a capture that ends early; else 0 */
+    size_t number;  /* the number of the refusal, else 0 */
+    size_t place;   /* the cell or the line that a refusal names, else 0 */
+};
+
+/* Holds what a board did in concentrate to the move rule, from the table that it started with. Everything is only read.
+ *
+ *     words, marks, aims   lanes, read: the table before the first move. Every marked cell's aim must be its rank, as otis_rank
+ *                          gives it. Words and aims of unmarked cells are ignored.
+ *     capture              bytes, read: the text that the logic analyser exports. Any length is taken, 0 too.
+ *
+ * A capture is lines, each ended by LF, its fields parted by one tab. A line of two fields is a move: its number, from 1, and
+ * its code. A line of four is a record after that move: cell, slot (0 front, 1 spare), word and aim; the records of a move
+ * stand in rising order of cell and slot. A number is decimal, has no leading zero and is at most 4294967295.
+ *
+ * A move differs where its code is not that of the list of otis_concentrate, or where the records after it are not those of
+ * the rule: each with its cell, slot, word and aim, and no others. Of a cell's two records that of the smaller aim is in front.
+ *
+ *     outcome         given where the capture is not refused and                         move
+ *     OTIS_DIFFERS    a move differs                                                     the first such move
+ *     OTIS_EARLY      none does, and it has fewer moves than the list                    its last move, 0 if it is empty
+ *     OTIS_AGREES     none does, and it has all moves of the list                        0
+ *
+ * Refusals: 1, 2, 5; 6 at the first marked cell whose aim is not its rank; 10 at line 0 where the capture has more than
+ * 65536 bytes or the side is above 3; else 10 at the first line, counted from 1, that
+ *     - has neither two fields nor four, or a field that is no such number, or no LF at its end;
+ *     - is a move whose number is not one more than that of the move before it, not 1 for the first one, or past the list;
+ *     - is a record before any move, of a cell or a slot that there is not, or of a cell and slot not above those of the
+ *       record before it in its move.
+ * The whole capture is judged before anything is compared. Any number is a good code, word and aim: one that the rule does
+ * not have is a difference.
+ */
+struct otis_replayed otis_replay(
+    size_t side,
+    const uint32_t *words, size_t words_length,
+    const uint8_t *marks, size_t marks_length,
+    const uint16_t *aims, size_t aims_length,
+    const uint8_t *capture, size_t capture_length);
+
+/* Rank, concentrate and distribute of both engines over arrays put together by name, so that no two of them can be exchanged
+ * unseen: front and spare lanes have types of their own. Lengths, refusals and results are those of the functions above. */
 
 /* The records, and during a run the front one of each cell: each array has so many cells. */
 struct otis_front {
