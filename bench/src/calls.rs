@@ -1,8 +1,10 @@
-//! Calls of the functions of `include/otis.h` as `c/server.c` takes them, and the answers that it must give.
+//! Calls of the functions of `include/otis.h` as `c/server.c` and `c/replay_server.c` take them, and the answers that they must
+//! give.
 
-use crate::fence::{parted, write_fenced, Post, FENCE};
+use crate::fence::{parted, write_between, write_fenced, Post, FENCE};
 use crate::model::answers::Answer;
-use crate::model::records::{Lent, Operation};
+use crate::model::records::{Lanes, Lent, Operation};
+use crate::model::replay::Outcome;
 
 #[derive(Clone, Copy, Debug, PartialEq, Eq)]
 pub enum Function {
@@ -10,18 +12,49 @@ pub enum Function {
     Run(Operation),
     PlainRank,
     PlainRun(Operation),
+    Replay,
 }
 
 impl Function {
-    /// Its number in a request.
+    /// Its number in a request. The replay has a server of its own.
     fn number(self) -> usize {
         match self {
-            Function::Rank => 1,
+            Function::Rank | Function::Replay => 1,
             Function::Run(Operation::Concentrate) => 2,
             Function::Run(Operation::Distribute) => 3,
             Function::PlainRank => 4,
             Function::PlainRun(Operation::Concentrate) => 5,
             Function::PlainRun(Operation::Distribute) => 6,
+        }
+    }
+
+    /// What the four numbers of its answer are.
+    fn answer_names(self) -> [&'static str; 4] {
+        match self {
+            Function::Replay => ["outcome", "move", "number", "place"],
+            _ => ["number", "place", "electronic", "swaps"],
+        }
+    }
+}
+
+/// An answer as C has it.
+pub trait Numbers {
+    fn numbers(&self) -> [usize; 4];
+}
+
+impl Numbers for Answer {
+    fn numbers(&self) -> [usize; 4] {
+        [self.number, self.place, self.electronic, self.swaps]
+    }
+}
+
+impl Numbers for Outcome {
+    fn numbers(&self) -> [usize; 4] {
+        match *self {
+            Outcome::Agrees => [0; 4],
+            Outcome::Differs(step) => [1, step, 0, 0],
+            Outcome::Early(step) => [2, step, 0, 0],
+            Outcome::Refused(refusal) => [3, 0, refusal.number, refusal.place],
         }
     }
 }
@@ -37,7 +70,15 @@ pub struct Ranked {
     pub codes: Vec<u8>,
 }
 
-/// What is lent to a stepping function: its slices, in the order of the header, which has the lanes before the logs.
+/// What is lent to a replay, and what stands around the capture: whoever reads past its end might take that for a part of it.
+#[derive(Clone, Debug, PartialEq, Eq)]
+pub struct Replayed {
+    pub start: Lanes,
+    pub capture: Vec<u8>,
+    pub post: u8,
+}
+
+/// What is lent to a function: its slices, in the order of the header, which has the lanes before the logs.
 pub trait Slices {
     fn write_lanes(&self, slices: &mut Written);
     fn write_logs(&self, slices: &mut Written);
@@ -70,6 +111,17 @@ impl Slices for Lent {
     }
 }
 
+impl Slices for Replayed {
+    fn write_lanes(&self, slices: &mut Written) {
+        slices.add("words", &self.start.words);
+        slices.add("marks", &self.start.marks);
+        slices.add("aims", &self.start.aims);
+        slices.add_between("capture", &self.capture, self.post);
+    }
+
+    fn write_logs(&self, _: &mut Written) {}
+}
+
 struct Slice {
     name: &'static str,
     width: usize,
@@ -84,7 +136,7 @@ pub struct Written {
 }
 
 impl Written {
-    /// The lanes alone for a plain function, which takes no log.
+    /// The lanes alone for a function that takes no log.
     fn of(lent: &impl Slices, function: Function) -> Written {
         let mut written = Written::default();
         lent.write_lanes(&mut written);
@@ -97,6 +149,11 @@ impl Written {
     fn add<T: Post>(&mut self, name: &'static str, slice: &[T]) {
         self.slices.push(Slice { name, width: T::WIDTH, length: slice.len() });
         write_fenced(slice, &mut self.bytes);
+    }
+
+    fn add_between<T: Post>(&mut self, name: &'static str, slice: &[T], post: T) {
+        self.slices.push(Slice { name, width: T::WIDTH, length: slice.len() });
+        write_between(slice, post, &mut self.bytes);
     }
 }
 
@@ -111,14 +168,13 @@ pub struct Call {
 
 impl Call {
     /// The call of a function on what is lent, which has to leave what is left and to give the answer.
-    pub fn new<T: Slices>(function: Function, side: usize, lent: &T, left: &T, answer: Answer) -> Call {
+    pub fn new<T: Slices>(function: Function, side: usize, lent: &T, left: &T, answer: impl Numbers) -> Call {
         let Written { slices, bytes: before } = Written::of(lent, function);
         let after = Written::of(left, function).bytes;
         let mut head = vec![function.number(), side];
         head.extend(slices.iter().map(|slice| slice.length));
-        let answer = [answer.number, answer.place, answer.electronic, answer.swaps];
         let request = [numbers(&head), before].concat();
-        let wanted = [numbers(&answer), after].concat();
+        let wanted = [numbers(&answer.numbers()), after].concat();
         Call { function, side, slices, request, wanted }
     }
 
@@ -131,7 +187,8 @@ impl Call {
         let ((answer, left), (wanted, wanted_left)) = (got.split_at(ANSWER), wanted.split_at(ANSWER));
         let difference = self.difference(left, wanted_left).unwrap_or("lanes and logs as wanted".to_string());
         let fences = if self.fences(left) == self.fences(wanted_left) { "fences whole" } else { "FENCES BROKEN" };
-        format!("answer {}\n  wanted {}\n  {difference}; {fences}", told_answer(answer), told_answer(wanted))
+        let (answer, wanted) = (self.told_answer(answer), self.told_answer(wanted));
+        format!("answer {answer}\n  wanted {wanted}\n  {difference}; {fences}")
     }
 
     /// Whether what a plain function gave fits what the stepping function of its name gave on the same lanes: the answer and
@@ -152,14 +209,18 @@ impl Call {
         }
     }
 
-    /// The cells whose marks were not 0, so that a failure can be made again by hand.
-    pub fn told_marks(&self) -> String {
+    fn told_answer(&self, bytes: &[u8]) -> String {
+        let named = self.function.answer_names().into_iter().zip(bytes.chunks(8).map(number));
+        named.map(|(name, number)| format!("{name} {number}")).collect::<Vec<_>>().join(" ")
+    }
+
+    /// What was lent, so that a failure can be made again by hand: the marks, and of a replay all of it.
+    pub fn told_lent(&self) -> String {
         let slices = &self.request[8 * (2 + self.slices.len())..];
-        let marks = self.parts(slices).find(|(slice, _)| slice.name == "marks");
-        let marks = marks.map_or(&[][..], |(slice, whole)| parted(whole, slice.width).1);
-        let cells = marks.iter().enumerate().filter(|(_, &mark)| mark != 0);
-        let told: Vec<String> = cells.map(|(cell, mark)| format!("{cell}:{mark}")).take(64).collect();
-        format!("[{}] of {}", told.join(" "), marks.len())
+        let is_told = |slice: &Slice| slice.name == "marks" || self.function == Function::Replay;
+        let told = self.parts(slices).filter(|(slice, _)| is_told(slice));
+        let told: Vec<String> = told.map(|(slice, whole)| slice.told(parted(whole, slice.width).1)).collect();
+        told.join("\n  ")
     }
 
     /// The slices, each with its bytes.
@@ -183,6 +244,16 @@ impl Call {
 }
 
 impl Slice {
+    /// A capture as text; of a lane the cells whose entries are not 0, as many as side 3 has.
+    fn told(&self, bytes: &[u8]) -> String {
+        if self.name == "capture" {
+            return format!("capture {:?} of {} bytes", short(bytes), self.length);
+        }
+        let entries = bytes.chunks(self.width).map(number).enumerate().filter(|&(_, entry)| entry != 0);
+        let told: Vec<String> = entries.map(|(cell, entry)| format!("{cell}:{entry}")).take(81).collect();
+        format!("{} [{}] of {}", self.name, told.join(" "), self.length)
+    }
+
     fn difference(&self, left: &[u8], wanted: &[u8]) -> Option<String> {
         let (left, wanted) = (parted(left, self.width).1, parted(wanted, self.width).1);
         let mut entries = left.chunks(self.width).zip(wanted.chunks(self.width)).enumerate();
@@ -202,9 +273,9 @@ fn number(bytes: &[u8]) -> u64 {
     bytes.iter().rev().fold(0, |number, &byte| number << 8 | byte as u64)
 }
 
-fn told_answer(bytes: &[u8]) -> String {
-    let numbers: Vec<u64> = bytes.chunks(8).map(number).collect();
-    format!("number {} place {} electronic {} swaps {}", numbers[0], numbers[1], numbers[2], numbers[3])
+/// The start of a text, for a reader.
+pub fn short(text: &[u8]) -> String {
+    String::from_utf8_lossy(&text[..text.len().min(2000)]).into_owned()
 }
 
 #[cfg(test)]
@@ -236,7 +307,21 @@ mod tests {
         assert!(call.told(&got).ends_with("FENCES BROKEN"));
         got[0] = 6;
         assert!(call.told(&got).starts_with("answer number 6 place 1 "));
-        assert_eq!(call.told_marks(), "[1:1] of 2");
+        assert_eq!(call.told_lent(), "marks [1:1] of 2");
+    }
+
+    #[test]
+    fn a_replay_is_told_whole() {
+        let start = Lanes { words: vec![70], marks: vec![1], aims: vec![0] };
+        let lent = Replayed { start, capture: b"1\t0\n".to_vec(), post: b'7' };
+        let call = Call::new(Function::Replay, 1, &lent, &lent, Outcome::Early(1));
+        assert_eq!(call.request[..48], numbers(&[1, 1, 1, 1, 1, 4]));
+        assert!(call.request.ends_with(b"71\t0\n7777777777777777"));
+        assert!(call.told(&call.wanted).starts_with("answer outcome 2 move 1 number 0 place 0\n"));
+        assert_eq!(
+            call.told_lent(),
+            "words [0:70] of 1\n  marks [0:1] of 1\n  aims [] of 1\n  capture \"1\\t0\\n\" of 4 bytes"
+        );
     }
 
     fn plain_call(number: usize) -> Call {

@@ -1,6 +1,6 @@
 //! A lane or a log as it goes through a pipe: between two fences, to see that nothing outside it is touched.
 
-/// Entries before a slice, and behind it: as many as `c/server.c` says.
+/// Entries before a slice, and behind it: as many as `c/pipes.h` says.
 pub const FENCE: usize = 16;
 
 /// Numbers that can stand in a fence.
@@ -28,7 +28,12 @@ post!(u32, 0xA55A_5AA5);
 
 /// Writes a slice between its fences.
 pub fn write_fenced<T: Post>(slice: &[T], bytes: &mut Vec<u8>) {
-    let fence = [T::POST; FENCE];
+    write_between(slice, T::POST, bytes);
+}
+
+/// Writes a slice between fences of these posts.
+pub fn write_between<T: Post>(slice: &[T], post: T, bytes: &mut Vec<u8>) {
+    let fence = [post; FENCE];
     for &entry in fence.iter().chain(slice).chain(&fence) {
         entry.write(bytes);
     }

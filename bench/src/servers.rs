@@ -11,13 +11,23 @@ use std::sync::mpsc::{sync_channel, Receiver, SyncSender};
 use std::sync::Arc;
 use std::thread;
 
-/// A call of a stepping function and one of the plain function of its name on the same lanes, and what they try. Where a log
-/// is too short, stepping refuses what plain does not look at.
+/// A call and what it tries; of a stepping function also the call of the plain function of its name on the same lanes.
 pub struct Case {
     pub what: String,
-    pub stepping: Call,
-    pub plain: Call,
+    pub call: Call,
+    pub plain: Option<Plain>,
+}
+
+/// Where a log is too short, stepping refuses what plain does not look at.
+pub struct Plain {
+    pub call: Call,
     pub short_log: bool,
+}
+
+impl Case {
+    fn calls(&self) -> impl Iterator<Item = &Call> {
+        [&self.call].into_iter().chain(self.plain.as_ref().map(|plain| &plain.call))
+    }
 }
 
 type Batch = Arc<Vec<Case>>;
@@ -50,7 +60,7 @@ impl Tally {
         self.failed.load(Relaxed)
     }
 
-    fn pass(&self) {
+    pub fn pass(&self) {
         self.passed.fetch_add(1, Relaxed);
     }
 
@@ -105,7 +115,7 @@ impl Server {
 }
 
 fn takes(ranks_alone: bool, case: &Case) -> bool {
-    !ranks_alone || case.stepping.function == Function::Rank
+    !ranks_alone || case.call.function == Function::Rank
 }
 
 /// Where the cases of one part go.
@@ -117,7 +127,7 @@ pub struct Cases {
 
 impl Cases {
     pub fn add(&mut self, case: Case) {
-        self.bytes += case.stepping.request.len() + case.plain.request.len();
+        self.bytes += case.calls().map(|call| call.request.len()).sum::<usize>();
         self.batch.push(case);
         if self.bytes >= BATCH {
             self.send();
@@ -161,9 +171,8 @@ fn feed(input: &mut BufWriter<ChildStdin>, ranks_alone: bool, batches: Receiver<
 }
 
 fn feed_batch(input: &mut BufWriter<ChildStdin>, ranks_alone: bool, batch: &[Case]) -> std::io::Result<()> {
-    for case in batch.iter().filter(|case| takes(ranks_alone, case)) {
-        input.write_all(&case.stepping.request)?;
-        input.write_all(&case.plain.request)?;
+    for call in batch.iter().filter(|case| takes(ranks_alone, case)).flat_map(Case::calls) {
+        input.write_all(&call.request)?;
     }
     input.write_all(&SEND)?;
     input.flush()
@@ -181,16 +190,17 @@ fn compare(
     for batch in batches {
         for case in batch.iter().filter(|case| takes(ranks_alone, case)) {
             compare_case(name, output, case, tally);
-            compared += 2;
+            compared += case.calls().count();
         }
     }
     compared
 }
 
-/// Both calls against the model, and one beside the other.
+/// Every call against the model, and a plain one beside the stepping one.
 fn compare_case(name: &str, output: &mut BufReader<ChildStdout>, case: &Case, tally: &Tally) {
-    let Case { what, stepping, plain, short_log } = case;
-    let stepped = compare_call(name, output, what, stepping, tally);
+    let what = &case.what;
+    let stepped = compare_call(name, output, what, &case.call, tally);
+    let Some(Plain { call: plain, short_log }) = &case.plain else { return };
     let at_once = compare_call(name, output, what, plain, tally);
     let (Some(stepped), Some(at_once)) = (stepped, at_once) else { return };
     match plain.beside(&at_once, &stepped, *short_log) {
@@ -222,6 +232,6 @@ fn compare_call(
 }
 
 fn told_failure(name: &str, what: &str, call: &Call, told: &str) -> String {
-    let (function, side, marks) = (call.function, call.side, call.told_marks());
-    format!("{name} {function:?}, {what}, side {side}, marks {marks}\n  {told}")
+    let (function, side, lent) = (call.function, call.side, call.told_lent());
+    format!("{name} {function:?}, {what}, side {side}, {lent}\n  {told}")
 }

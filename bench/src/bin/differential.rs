@@ -12,7 +12,7 @@ use otis_bench::frames::{self, Dice, Kind, KINDS};
 use otis_bench::model::board::Board;
 use otis_bench::model::records::{self, Lanes, Lent, Operation};
 use otis_bench::model::{moves, plain, words};
-use otis_bench::servers::{compare_part, Case, Cases, Server, Tally};
+use otis_bench::servers::{compare_part, Case, Cases, Plain, Server, Tally};
 use std::process::ExitCode;
 
 const SEED: u64 = 0x0715_2001_D0A0_1A3B;
@@ -88,22 +88,22 @@ fn compare_all(servers: &mut [Server], tally: &Tally) {
 fn check_rank(trial: &mut Trial, what: &str, side: usize, lent: Ranked) {
     let (mut left, mut plain_left) = (lent.clone(), lent.clone());
     let answer = words::rank(side, &lent.marks, &mut left.aims, &mut left.codes);
-    let stepping = Call::new(Function::Rank, side, &lent, &left, answer);
+    let call = Call::new(Function::Rank, side, &lent, &left, answer);
     let answer = plain::rank(side, &lent.marks, &mut plain_left.aims);
     let plain = Call::new(Function::PlainRank, side, &lent, &plain_left, answer);
     let short_log = is_short(side, &[lent.codes.len()]);
-    trial.cases.add(Case { what: what.to_string(), stepping, plain, short_log });
+    trial.cases.add(Case { what: what.to_string(), call, plain: Some(Plain { call: plain, short_log }) });
 }
 
 /// Gives back what the model that steps leaves.
 fn check_run(trial: &mut Trial, what: &str, operation: Operation, side: usize, lent: &Lent) -> Lent {
     let (mut left, mut plain_left) = (lent.clone(), lent.clone());
     let answer = records::full(operation, side, &mut left);
-    let stepping = Call::new(Function::Run(operation), side, lent, &left, answer);
+    let call = Call::new(Function::Run(operation), side, lent, &left, answer);
     let answer = plain::at_once(operation, side, &mut plain_left.front, &mut plain_left.spare);
     let plain = Call::new(Function::PlainRun(operation), side, lent, &plain_left, answer);
     let short_log = is_short(side, &[lent.codes.len(), lent.moved.len()]);
-    trial.cases.add(Case { what: what.to_string(), stepping, plain, short_log });
+    trial.cases.add(Case { what: what.to_string(), call, plain: Some(Plain { call: plain, short_log }) });
     left
 }
 

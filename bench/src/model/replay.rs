@@ -46,13 +46,17 @@ pub fn replay(side: usize, start: &Lanes, capture: &[u8]) -> Outcome {
     }
 }
 
-/// What the program prints for the bytes of a job and of a capture.
-pub fn printed(job: &[u8], capture: &[u8]) -> String {
-    let outcome = match job::parse(job) {
+/// What the program finds in the bytes of a job and of a capture.
+pub fn outcome(job: &[u8], capture: &[u8]) -> Outcome {
+    match job::parse(job) {
         Ok(job) => replay(job.board.side, &job::ranked(&job), capture),
         Err(refusal) => Outcome::Refused(refusal),
-    };
-    match outcome {
+    }
+}
+
+/// What the program prints for them.
+pub fn printed(job: &[u8], capture: &[u8]) -> String {
+    match outcome(job, capture) {
         Outcome::Agrees => "agrees\n".to_string(),
         Outcome::Differs(step) => format!("differs\t{step}\n"),
         Outcome::Early(step) => format!("early\t{step}\n"),
