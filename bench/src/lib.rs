@@ -3,8 +3,10 @@
 #![forbid(unsafe_code)]
 
 pub mod calls;
+pub mod captures;
 pub mod fence;
 pub mod frames;
 pub mod model;
+pub mod programs;
 pub mod servers;
 pub mod texts;
