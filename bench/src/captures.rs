@@ -33,12 +33,13 @@ impl Table {
         Table::some(side, kind, dice)
     }
 
-    /// With these cells marked, and words of one digit, so that the capture is small.
+    /// With these cells marked, ten at most, and words of one digit, all different, so that the capture is small.
     pub fn small(side: usize, cells: &[usize], dice: &mut Dice) -> Table {
         let marked: Vec<bool> = (0..Board { side }.cells()).map(|cell| cells.contains(&cell)).collect();
         let mut table = Table::new(side, &marked, dice);
-        for &cell in cells {
-            table.start.words[cell] = dice.below(10) as u32;
+        let first = dice.below(10);
+        for (rank, &cell) in cells.iter().enumerate() {
+            table.start.words[cell] = ((first + 3 * rank) % 10) as u32;
         }
         table
     }

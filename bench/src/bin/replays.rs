@@ -2,8 +2,7 @@
 //! what can be done to them, and on all that is refused. Of a call of the archive the answer is compared, every lane and the
 //! capture after it, and the fences around them; of the program what it prints. The last line counts the comparisons.
 //!
-//! `replays [--first] SERVER.. -- PROGRAM..`: the words that start `c/replay_server.c` over the archive, and those that start the
-//! program. With `--first` it stops at the first failure.
+//! `replays SERVER.. -- PROGRAM..`: the words that start `c/replay_server.c` over the archive, and those that start the program.
 
 use otis_bench::calls::{short, Call, Function, Replayed};
 use otis_bench::captures::{self, Edit, Table};
@@ -116,16 +115,15 @@ struct Trial<'a> {
 }
 
 fn main() -> ExitCode {
-    let mut words: Vec<String> = std::env::args().skip(1).collect();
-    let first = words.first().is_some_and(|word| word == "--first");
-    words.drain(..usize::from(first));
+    let words: Vec<String> = std::env::args().skip(1).collect();
     let commands: Vec<&[String]> = words.split(|word| word == "--").collect();
-    let [server, program] = commands[..] else { return usage() };
+    // a `--` may stand before the server too
+    let ([server, program] | [[], server, program]) = commands[..] else { return usage() };
     if server.is_empty() || program.is_empty() {
         return usage();
     }
     println!("seed {SEED:#x}");
-    let tally = Tally::new(first);
+    let tally = Tally::new(false);
     let dice = &mut Dice::new(SEED);
     compare_library(server, dice, &tally);
     compare_program(&Program::new(program), dice, &tally);
@@ -134,7 +132,7 @@ fn main() -> ExitCode {
 }
 
 fn usage() -> ExitCode {
-    eprintln!("usage: replays [--first] SERVER.. -- PROGRAM..");
+    eprintln!("usage: replays SERVER.. -- PROGRAM..");
     ExitCode::from(2)
 }
 
