@@ -1,19 +1,23 @@
 /* How much stack the functions of the header take, against what the header says.
  *
  * The stack below is painted, the function is called, and what is no longer paint was touched. At every side, with no cell
- * marked, half of them and all; the most of these counts. Each call is made once before, so that what the linker does at
- * a first call is not counted. For x86-64, as the archive is. */
+ * marked, half of them and all; the most of these counts. The replay at the sides that have captures: with no cell marked and
+ * with all the capture of a board that follows the rule, which is the longest that does; with half of them the longest capture
+ * there may be, all slots of all cells full. Each call is made once before, so that what the linker does at a first call is
+ * not counted. For x86-64, as the archive is. */
 #include "otis.h"
 
 #include <stdio.h>
 
-enum { ROOM = 1 << 20, PAINT = 0xa5 };
+enum { ROOM = 1 << 20, PAINT = 0xa5, MAX_SIDE = 8, CAPTURED_SIDE = 3, LONGEST_CAPTURE = 65536, LONGEST_LINE = 27 };
 
 static size_t side, step; /* the board, and of how many cells one is marked; 0: no cell is */
 static uint32_t words[OTIS_MAX_CELLS], spare_words[OTIS_MAX_CELLS];
 static uint8_t marks[OTIS_MAX_CELLS], spare_marks[OTIS_MAX_CELLS], codes[OTIS_MAX_MOVES];
 static uint16_t aims[OTIS_MAX_CELLS], spare_aims[OTIS_MAX_CELLS], moved[OTIS_MAX_MOVES];
 static struct otis_answer answer;
+static uint8_t capture[LONGEST_CAPTURE];
+static size_t captured;
 
 static struct otis_front front(void)
 {
@@ -87,6 +91,83 @@ static void call_plain_distribute(void)
     answer = otis_plain_distribute_board(side, front(), spare());
 }
 
+/* Puts a number and what ends it behind the capture. A function of the C library might take more stack than the replay does. */
+static void put_number(size_t number, char end)
+{
+    uint8_t digits[20];
+    size_t count = 0;
+    do
+        digits[count++] = (uint8_t)('0' + number % 10);
+    while (number /= 10);
+    while (count > 0)
+        capture[captured++] = digits[--count];
+    capture[captured++] = (uint8_t)end;
+}
+
+/* Puts a line of so many numbers there; 0 where the longest one might have no room. */
+static int put_line(const size_t numbers[], size_t count)
+{
+    if (captured + LONGEST_LINE > LONGEST_CAPTURE)
+        return 0;
+    for (size_t at = 0; at < count; at++)
+        put_number(numbers[at], at + 1 < count ? '\t' : '\n');
+    return 1;
+}
+
+/* The records of a full board after a move. None moves but in the swaps: between these every cell has its partner's. */
+static int put_full_board(int swapped)
+{
+    size_t groups = side * side;
+    for (size_t cell = 0; cell < OTIS_CELLS(side); cell++) {
+        size_t from = swapped ? cell % groups * groups + cell / groups : cell;
+        size_t record[] = {cell, 0, words[from], from};
+        if (!put_line(record, 4))
+            return 0;
+    }
+    return 1;
+}
+
+/* A record in every slot, its line as long as one can be. */
+static int put_all_slots(void)
+{
+    for (size_t slot = 0; slot < 2 * OTIS_CELLS(side); slot++) {
+        size_t record[] = {slot / 2, slot % 2, UINT32_MAX, UINT32_MAX};
+        if (!put_line(record, 4))
+            return 0;
+    }
+    return 1;
+}
+
+static void write_capture(void)
+{
+    static const uint8_t runs[] = {
+        OTIS_RIGHT, OTIS_LEFT, OTIS_UP, OTIS_DOWN, OTIS_SWAP, OTIS_RIGHT, OTIS_LEFT, OTIS_UP, OTIS_SWAP};
+    int swapped = 0, room = 1;
+    size_t line[] = {1, 0};
+    captured = 0;
+    for (size_t run = 0; run < sizeof runs; run++)
+        for (size_t left = runs[run] == OTIS_SWAP ? 1 : side - 1; room && left > 0; left--) {
+            swapped ^= runs[run] == OTIS_SWAP;
+            line[1] = runs[run];
+            room = put_line(line, 2) && (step == 0 || (step == 1 ? put_full_board(swapped) : put_all_slots()));
+            line[0]++;
+        }
+}
+
+/* The capture of half a board has other records than the rule. */
+static void call_replay(void)
+{
+    mark_by_steps();
+    for (size_t cell = 0; cell < OTIS_CELLS(side); cell++)
+        words[cell] = UINT32_MAX - (uint32_t)cell;
+    write_capture();
+    struct otis_replayed found = otis_replay(
+        side, words, OTIS_CELLS(side), marks, OTIS_CELLS(side), aims, OTIS_CELLS(side), capture, captured);
+    int as_wanted = step == 2 ? found.outcome == OTIS_DIFFERS && found.move == 1 : found.outcome == OTIS_AGREES;
+    answer.number = as_wanted ? OTIS_ACCEPTED : OTIS_BAD_CAPTURE;
+    answer.place = found.place;
+}
+
 /* How far below this function's own stack a call reaches. */
 __attribute__((noinline)) static size_t reach(void (*call)(void))
 {
@@ -101,11 +182,11 @@ __attribute__((noinline)) static size_t reach(void (*call)(void))
     return (size_t)(here - lowest);
 }
 
-/* Whether a function keeps to what the header says. */
-static int keeps_to(const char *name, void (*call)(void), size_t said)
+/* Whether a function keeps to what the header says, at the sides up to the last. */
+static int keeps_to(const char *name, void (*call)(void), size_t said, size_t last)
 {
     size_t most = 0;
-    for (side = 1; side <= 8; side++)
+    for (side = 1; side <= last; side++)
         for (step = 0; step <= 2; step++) {
             size_t here = reach(call);
             most = here > most ? here : most;
@@ -122,19 +203,21 @@ static const struct {
     const char *name;
     void (*call)(void);
     size_t said;
+    size_t last;
 } functions[] = {
-    {"rank", call_rank, OTIS_RANK_STACK},
-    {"concentrate", call_concentrate, OTIS_CONCENTRATE_STACK},
-    {"distribute", call_distribute, OTIS_DISTRIBUTE_STACK},
-    {"plain rank", call_plain_rank, OTIS_PLAIN_STACK},
-    {"plain concentrate", call_plain_concentrate, OTIS_PLAIN_STACK},
-    {"plain distribute", call_plain_distribute, OTIS_PLAIN_STACK},
+    {"rank", call_rank, OTIS_RANK_STACK, MAX_SIDE},
+    {"concentrate", call_concentrate, OTIS_CONCENTRATE_STACK, MAX_SIDE},
+    {"distribute", call_distribute, OTIS_DISTRIBUTE_STACK, MAX_SIDE},
+    {"plain rank", call_plain_rank, OTIS_PLAIN_STACK, MAX_SIDE},
+    {"plain concentrate", call_plain_concentrate, OTIS_PLAIN_STACK, MAX_SIDE},
+    {"plain distribute", call_plain_distribute, OTIS_PLAIN_STACK, MAX_SIDE},
+    {"replay", call_replay, OTIS_REPLAY_STACK, CAPTURED_SIDE},
 };
 
 int main(void)
 {
     int all = 1;
     for (size_t at = 0; at < sizeof functions / sizeof *functions; at++)
-        all &= keeps_to(functions[at].name, functions[at].call, functions[at].said);
+        all &= keeps_to(functions[at].name, functions[at].call, functions[at].said, functions[at].last);
     return all ? 0 : 1;
 }
