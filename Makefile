@@ -1,8 +1,9 @@
 # The commands of the README. `make` alone shows them.
-.PHONY: help run test lib bench
+.PHONY: help run replay test lib bench
 
 help:
 	@echo 'make run            the moves of an example job; make run JOB=FILE: of another'
+	@echo 'make replay         whether a captured run follows the rule; make replay JOB=FILE CAPTURE=FILE: of others'
 	@echo 'make test           the whole test, from nothing: half an hour'
 	@echo 'make lib            the archive for C, target/lib/libotis.a, to use with include/otis.h'
 	@echo 'make bench          times of both engines against C functions of the same'
@@ -10,6 +11,9 @@ help:
 
 run:
 	@tests/run
+
+replay:
+	@tests/replay
 
 test:
 	@tests/all
