@@ -53,11 +53,27 @@ impl Table {
     }
 }
 
+/// Tables whose captures are small: at sides 2 and 3 also such where two records meet in a cell.
+pub fn small_tables(dice: &mut Dice) -> Vec<Table> {
+    let marked: [(usize, &[usize]); 9] = [
+        (1, &[]),
+        (1, &[0]),
+        (2, &[]),
+        (2, &[9]),
+        (2, &[1, 6, 11]),
+        (2, &[0, 4, 5]),
+        (3, &[]),
+        (3, &[0, 80]),
+        (3, &[0, 1, 9, 11]),
+    ];
+    marked.iter().map(|(side, cells)| Table::small(*side, cells, dice)).collect()
+}
+
 fn text(steps: &[Step]) -> Vec<u8> {
     replay::capture(steps).into_bytes()
 }
 
-/// Makes one move differ: its code, a record lost, or a record's word, aim or slot. Without records only a code does.
+/// Changes one move: its code, a record lost, or a record's word, aim or slot; without records its code.
 pub fn depart(steps: &mut [Step], dice: &mut Dice) {
     if steps.is_empty() {
         return;
@@ -222,4 +238,57 @@ pub fn moves_exchanged(steps: &[Step]) -> Vec<Edit> {
         edits.push((format!("moves {at} and {} exchanged", at + 1), text(&exchanged)));
     }
     edits
+}
+
+#[cfg(test)]
+mod tests {
+    use super::*;
+    use crate::model::replay::{replay, Outcome};
+
+    fn has_spare(table: &Table) -> bool {
+        table.steps().iter().any(|step| step.records.iter().any(|record| record.slot == 1))
+    }
+
+    #[test]
+    fn in_small_tables_of_sides_2_and_3_records_meet() {
+        let tables = small_tables(&mut Dice::new(1));
+        for side in 1..=3 {
+            assert_eq!(tables.iter().any(|table| table.board.side == side && has_spare(table)), side > 1);
+        }
+        assert!(tables.iter().all(|table| table.capture().len() < 1000));
+    }
+
+    #[test]
+    fn a_move_that_departs_differs_or_is_as_it_was() {
+        let dice = &mut Dice::new(2);
+        let table = Table::small(2, &[1, 6, 11], dice);
+        for _ in 0..200 {
+            let mut steps = table.steps();
+            depart(&mut steps, dice);
+            let at = table.steps().iter().zip(&steps).position(|(rule, step)| rule != step);
+            let wanted = at.map_or(Outcome::Agrees, |before| Outcome::Differs(before + 1));
+            assert_eq!(replay(2, &table.start, &text(&steps)), wanted);
+        }
+    }
+
+    #[test]
+    fn a_record_added_differs() {
+        let dice = &mut Dice::new(3);
+        for table in small_tables(dice) {
+            for (what, capture) in records_added(&table.steps(), table.board, dice) {
+                assert!(matches!(replay(table.board.side, &table.start, &capture), Outcome::Differs(_)), "{what}");
+            }
+        }
+    }
+
+    #[test]
+    fn edits_leave_no_capture_as_it_was() {
+        let dice = &mut Dice::new(4);
+        for table in small_tables(dice) {
+            let capture = table.capture();
+            let edits =
+                [every_byte(&capture, dice), cut_after_bytes(&capture), other_numbers(&capture, table.board, dice)];
+            assert!(edits.concat().iter().all(|(_, edited)| *edited != capture));
+        }
+    }
 }

@@ -177,22 +177,6 @@ fn check_edits(trial: &mut Trial, table: &Table, edits: Vec<Edit>) {
     }
 }
 
-/// Tables whose captures are small: at sides 2 and 3 also such where two records meet in a cell.
-fn small_tables(dice: &mut Dice) -> Vec<Table> {
-    let marked: [(usize, &[usize]); 9] = [
-        (1, &[]),
-        (1, &[0]),
-        (2, &[]),
-        (2, &[9]),
-        (2, &[1, 6, 11]),
-        (2, &[0, 4, 5]),
-        (3, &[]),
-        (3, &[0, 80]),
-        (3, &[2, 9, 10]),
-    ];
-    marked.iter().map(|(side, cells)| Table::small(*side, cells, dice)).collect()
-}
-
 fn own_captures(trial: &mut Trial) {
     for (side, kind) in (1..=3).flat_map(|side| KINDS.map(|kind| (side, kind))) {
         let once = matches!(kind, Kind::None | Kind::All);
@@ -218,7 +202,7 @@ fn other_tables(trial: &mut Trial) {
 }
 
 fn every_byte(trial: &mut Trial) {
-    for table in small_tables(trial.dice) {
+    for table in captures::small_tables(trial.dice) {
         let capture = table.capture();
         check_edits(trial, &table, captures::cut_after_bytes(&capture));
         let edits = captures::every_byte(&capture, trial.dice);
@@ -227,7 +211,7 @@ fn every_byte(trial: &mut Trial) {
 }
 
 fn every_line(trial: &mut Trial) {
-    for table in small_tables(trial.dice) {
+    for table in captures::small_tables(trial.dice) {
         check_edits(trial, &table, captures::every_line(&table.capture()));
     }
     for _ in 0..6 {
@@ -237,21 +221,21 @@ fn every_line(trial: &mut Trial) {
 }
 
 fn other_numbers(trial: &mut Trial) {
-    for table in small_tables(trial.dice) {
+    for table in captures::small_tables(trial.dice) {
         let edits = captures::other_numbers(&table.capture(), table.board, trial.dice);
         check_edits(trial, &table, edits);
     }
 }
 
 fn records_added(trial: &mut Trial) {
-    for table in small_tables(trial.dice) {
+    for table in captures::small_tables(trial.dice) {
         let edits = captures::records_added(&table.steps(), table.board, trial.dice);
         check_edits(trial, &table, edits);
     }
 }
 
 fn exchanged(trial: &mut Trial) {
-    let mut tables = small_tables(trial.dice);
+    let mut tables = captures::small_tables(trial.dice);
     for side in [2, 2, 2, 3] {
         tables.push(Table::some(side, Kind::Sparse, trial.dice));
         tables.push(Table::some(2, Kind::Half, trial.dice));
