@@ -94,10 +94,11 @@ pub fn cut_after_moves(steps: &[Step]) -> Vec<Edit> {
     (0..=steps.len()).map(|moves| (format!("{moves} moves"), text(&steps[..moves]))).collect()
 }
 
-/// Every byte dropped, doubled, and changed to several others, those of the text's form among them.
+/// Every byte dropped, doubled, changed to several others, those of the text's form among them, and with others before it.
 pub fn every_byte(capture: &[u8], dice: &mut Dice) -> Vec<Edit> {
     const FORM: &[u8] = b"\t\n0";
     const OTHERS: &[u8] = b"123456789 \r-+x\0\xff";
+    const BEFORE: &[u8] = b"\t\n0\r +-";
     let mut edits = Vec::new();
     for at in 0..capture.len() {
         let others = [(); 4].map(|()| OTHERS[dice.below(OTHERS.len())]);
@@ -106,6 +107,9 @@ pub fn every_byte(capture: &[u8], dice: &mut Dice) -> Vec<Edit> {
         for byte in bytes.filter(|&byte| byte != capture[at]) {
             let changed = [&capture[..at], &[byte], &capture[at + 1..]].concat();
             edits.push((format!("byte {at} is {byte}"), changed));
+        }
+        for &byte in BEFORE {
+            edits.push((format!("{byte} before byte {at}"), [&capture[..at], &[byte], &capture[at..]].concat()));
         }
         edits.push((format!("byte {at} dropped"), [&capture[..at], &capture[at + 1..]].concat()));
         edits.push((format!("byte {at} doubled"), [&capture[..=at], &capture[at..]].concat()));
@@ -159,7 +163,8 @@ pub fn other_numbers(capture: &[u8], board: Board, dice: &mut Dice) -> Vec<Edit>
 fn others(number: &str, board: Board, dice: &mut Dice) -> Vec<String> {
     let number: u64 = number.parse().expect("a capture has numbers alone");
     let cells = board.cells() as u64;
-    let near = [number + 1, number.saturating_sub(1), number + 256, number + (1 << 16), number + cells];
+    let near =
+        [number + 1, number.saturating_sub(1), number + 256, number + (1 << 16), number ^ (1 << 31), number + cells];
     let ends = [0, 1, 2, 5, cells - 1, cells, 65_535, u32::MAX as u64, 1 << 32, number + (1 << 32)];
     let others = near.into_iter().chain(ends).chain([dice.roll() as u32 as u64]);
     others.filter(|&other| other != number).map(|other| other.to_string()).collect()

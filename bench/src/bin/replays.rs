@@ -38,7 +38,7 @@ type Part = fn(&mut Trial);
 const PARTS: [(&str, Part); 13] = [
     ("captures of tables of every kind, whole and cut after every move", own_captures),
     ("captures of other tables", other_tables),
-    ("captures cut behind every byte, every byte changed, dropped, doubled", every_byte),
+    ("captures cut behind every byte, every byte changed, dropped, doubled, others put before it", every_byte),
     ("every line dropped, doubled, put last, exchanged with the next", every_line),
     ("every number another", other_numbers),
     ("a record added in every slot", records_added),
@@ -375,15 +375,15 @@ fn long_captures(trial: &mut Trial) {
     }
 }
 
-/// Each of side, lanes, marks, aims and capture wrong or not.
+/// Each of side, lanes, marks, aims and capture wrong or not, at sides 1 to 4.
 fn several_refusals(trial: &mut Trial) {
-    for round in 0..4 * 32 {
+    for round in 0..4 * 4 * 32 {
         let mut table = Table::some(1 + round % 4, Kind::Half, trial.dice);
         let (mut side, cells) = (table.board.side, table.board.cells());
         let mut capture = table.capture();
         let wrong = |bit: usize| (round / 4) >> bit & 1 == 1;
         if wrong(0) {
-            capture = [b"x\n".to_vec(), texts::padded("1\t1\n", 65_536)][round % 2].clone();
+            capture = texts::padded("x\n", [2, 65_536, 65_537][trial.dice.below(3)]);
         }
         if wrong(1) {
             table.start.aims[trial.dice.below(cells)] ^= 3;
