@@ -3,3 +3,5 @@ pub mod Starting
 pub mod Telling
 pub mod Resolving
 pub mod Walking
+pub mod Judged
+pub mod Order

@@ -12,8 +12,8 @@ use Rattle.laws.proofs.Deciding.{apart}
 use Rattle.captures.specs.declared.Held.{Held}
 use Rattle.captures.specs.declared.state.Records.{Records}
 use Rattle.captures.specs.declared.walk.Tally.{Tally}
-use Rattle.captures.specs.declared.Replay.{Replay}
-use Rattle.captures.specs.declared.Replay.the-variants.{Differs}
+use Rattle.captures.specs.declared.Replayed.{Replayed}
+use Rattle.captures.specs.declared.Replayed.the-variants.{Differs}
 use Rattle.captures.specs.Captures.{CaptureVerdict, isCapture, noCapture, withMove, withRecord}
 use Rattle.captures.specs.Replays.{codeAt, sameHeld, sameRecords, recordsAfter, compared}
 use Rattle.captures.specs.Inside.{listIn, Listing, expectedAt, earlier, behindMove, isFirst, behindRecord, endOf, resolved}
@@ -45,11 +45,11 @@ drop-one (x ∷ l) zero = refl
 drop-one (x ∷ l) (suc k) = drop-one l k
 
 -- what follows a difference, or nothing
-abbrev following : Replay → ℕ → Replay
+abbrev following : Replayed → ℕ → Replayed
 following x d = cond (eqb d 0) x (Differs d)
 
 -- one thing more that may differ, at a move
-one-thing : (d made : ℕ) (f : Bool) (x : Replay) → (f ≡ false → made ≡ 0 → ⊥)
+one-thing : (d made : ℕ) (f : Bool) (x : Replayed) → (f ≡ false → made ≡ 0 → ⊥)
     → following (cond f x (Differs made)) d ≡ following x (earlier d (cond f 0 made))
 one-thing d made f x p = go f (eqb d 0) refl refl
   where
@@ -66,12 +66,12 @@ earlier-twice d e f = go (eqb d 0) refl
     go true i = rw i
     go false i = rw (i, i)
 
-and-cond : (u f : Bool) (x y : Replay) → cond (u && f) x y ≡ cond u (cond f x y) y
+and-cond : (u f : Bool) (x y : Replayed) → cond (u && f) x y ≡ cond u (cond f x y) y
 and-cond true f x y = refl
 and-cond false f x y = refl
 
 -- records are the same where the first is, and those behind it are
-same-first : (h : Held) (hs l : List Held) (x y : Replay) → cond (sameRecords (h ∷ hs) l) x y ≡ cond (isFirst h l) (cond (sameRecords hs (behind l)) x y) y
+same-first : (h : Held) (hs l : List Held) (x y : Replayed) → cond (sameRecords (h ∷ hs) l) x y ≡ cond (isFirst h l) (cond (sameRecords hs (behind l)) x y) y
 unfolding sameRecords behind
 same-first h hs [] x y = refl
 same-first h hs (q ∷ l) x y = and-cond (sameHeld h q) (sameRecords hs l) x y

@@ -29,8 +29,8 @@ use Rattle.captures.specs.declared.state.Start.{Start}
 use Rattle.captures.specs.declared.walk.Tally.{Tally}
 use Rattle.captures.specs.declared.walk.Next.{Next}
 use Rattle.captures.specs.declared.walk.Next.the-variants.{On, Bad}
-use Rattle.captures.specs.declared.Replay.{Replay}
-use Rattle.captures.specs.declared.Replay.the-variants.{Agrees, Differs, Early}
+use Rattle.captures.specs.declared.Replayed.{Replayed}
+use Rattle.captures.specs.declared.Replayed.the-variants.{Agrees, Differs, Early}
 use Rattle.captures.specs.Captures.{orderOf, inTurn, inPlace}
 use Rattle.captures.specs.Replays.{codeAt, sameHeld}
 use Rattle.captures.specs.Inside.{listIn, Roomy, Listing, Small, recordsFrom, expectedFrom, earlier, behindMove, isFirst, behindRecord, endOf}
@@ -109,8 +109,7 @@ place-known s made next h e =
     let b = leb (h .slot) 1 && c in
     let a = ltb (h .cell) (cells s) && b in
     let i = both-right (ltb 0 made) a e in
-    let j = both-right (ltb (h .cell) (cells s)) b i in
-    (
+    let j = both-right (ltb (h .cell) (cells s)) b i in (
       ltb-true 0 made (both-left (ltb 0 made) a e),
       (
         ltb-true (h .cell) (cells s) (both-left (ltb (h .cell) (cells s)) b i),
@@ -169,8 +168,8 @@ pub placed : (s other d order : ℕ) (t : Tally) (r : Records) (h : Held) (good 
     ≡ cond (inPlace s (t .made) (t .next) h) (On (behindRecord t (listIn r) h)) Bad
 placed s other d order t r h good first g f e v q o =
     let numbers : On (record { made = t .made; next = order + 1; seen = t .seen + 1; differs = d })
-        ≡ On (record { made = t .made; next = suc (orderOf h); seen = suc (t .seen); differs = d })
-        = ap₂ (λ (x y : ℕ). On (record { made = t .made; next = x; seen = y; differs = d })) (omega (arith, o)) (omega arith) in
+    ≡ On (record { made = t .made; next = suc (orderOf h); seen = suc (t .seen); differs = d })
+    = ap₂ (λ (x y : ℕ). On (record { made = t .made; next = x; seen = y; differs = d })) (omega (arith, o)) (omega arith) in
     rw (sym g ∙ not-false good f) (numbers ∙ ap (λ (x : ℕ). On (record { made = t .made; next = suc (orderOf h); seen = suc (t .seen); differs = x })) all)
   where
     all : d ≡ earlier (t .differs) (cond (isFirst h (drop (t .seen) (listIn r))) 0 (t .made))

@@ -20,8 +20,8 @@ use Rattle.captures.specs.declared.state.Start.{Start}
 use Rattle.captures.specs.declared.walk.Tally.{Tally}
 use Rattle.captures.specs.declared.walk.Next.{Next}
 use Rattle.captures.specs.declared.walk.Next.the-variants.{On, Bad}
-use Rattle.captures.specs.declared.Replay.{Replay}
-use Rattle.captures.specs.declared.Replay.the-variants.{Refused}
+use Rattle.captures.specs.declared.Replayed.{Replayed}
+use Rattle.captures.specs.declared.Replayed.the-variants.{Refused}
 use Rattle.captures.specs.Captures.{heldOf, orderOf, CaptureVerdict, isCapture, noCapture, inTurn, inPlace, captureFrom}
 use Rattle.captures.specs.Inside.{listIn, Roomy, Listing, Small, Started, expectedAt, noTally, behindMove, behindRecord, nextOf, endOf, resolved, resolvedFrom, expectedFrom}
 use Rattle.captures.proofs.Starting.{few-cells}
@@ -115,10 +115,10 @@ module _ (s k : ℕ) (ls : List TextLine) (line : List ℕ) (t : Tally) (r : Rec
   refused-line n = refused-by (numbersIn line) refl n
 
 -- what the whole capture comes to, and what the lines from `at` on come to behind a tally
-abbrev wholly : ℕ → Start → List ℕ → Replay
+abbrev wholly : ℕ → Start → List ℕ → Replayed
 wholly s b text = resolvedFrom s b noTally (captureFrom s 0 0 1 (linesOf text))
 
-abbrev onward : ℕ → Start → List ℕ → ℕ → ℕ → Tally → Replay
+abbrev onward : ℕ → Start → List ℕ → ℕ → ℕ → Tally → Replayed
 onward s b text at line t = resolvedFrom s b t (captureFrom s (t .made) (t .next) line (linesOf (drop at text)))
 
 -- the state of `walk` before the line at `at`: what is not read yet gives the whole answer
@@ -150,7 +150,7 @@ pub listing-room : {l : List Held} {r : Records} → Listing l r → Roomy 162 r
 listing-room {l} {r} z = record { long = z .long; few = omega (arith, z .long, z .size, ap length (z .list), length-take (r .count) (r .list)) }
 
 module _ {s : ℕ} {b : Start} {text : List ℕ} {at line : ℕ} {t : Tally} {r : Records} (k : Walking s b text at line t r) where
-  pub walking-end : length text ≤ at → {x : Replay} → x ≡ endOf s t (r .count) → x ≡ wholly s b text
+  pub walking-end : length text ≤ at → {x : Replayed} → x ≡ endOf s t (r .count) → x ≡ wholly s b text
   unfolding captureFrom linesOf
   walking-end h {x} e =
       let n : drop at text ≡ [] = drop-of-length-le text h in

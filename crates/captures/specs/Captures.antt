@@ -55,9 +55,9 @@ captureFrom s made next k (ended line ∷ ls) =
     elim (numbersIn line) [
       | Two number code ↦ cond (inTurn s made number) (withMove code (captureFrom s number 0 (suc k) ls)) (noCapture k)
       | Four cell slot word aim ↦
-            cond (inPlace s made next (heldOf cell slot word aim))
-            (withRecord (heldOf cell slot word aim) (captureFrom s made (suc (orderOf (heldOf cell slot word aim))) (suc k) ls))
-            (noCapture k)
+          cond (inPlace s made next (heldOf cell slot word aim))
+          (withRecord (heldOf cell slot word aim) (captureFrom s made (suc (orderOf (heldOf cell slot word aim))) (suc k) ls))
+          (noCapture k)
       | Other ↦ noCapture k
     ]
 

@@ -12,8 +12,8 @@ use Rattle.texts.specs.declared.read.Numbers.the-variants.{Two, Four, Other}
 use Rattle.lists.specs.declared.Trip.the-variants.{Concentrate}
 use Rattle.refusals.specs.Cases.{Good}
 use Rattle.captures.specs.declared.Held.{Held}
-use Rattle.captures.specs.declared.Replay.{Replay}
-use Rattle.captures.specs.declared.Replay.the-variants.{Agrees, Differs, Early, Refused}
+use Rattle.captures.specs.declared.Replayed.{Replayed}
+use Rattle.captures.specs.declared.Replayed.the-variants.{Agrees, Differs, Early, Refused}
 use Rattle.captures.specs.declared.walk.Tally.{Tally}
 use Rattle.captures.specs.declared.walk.Next.{Next}
 use Rattle.captures.specs.declared.walk.Next.the-variants.{On, Bad}
@@ -120,14 +120,14 @@ nextOf s t r (Four cell slot word aim) =
 nextOf s t r Other = Bad
 
 -- what a tally comes to at the end of a capture
-abbrev pub endOf : ℕ → Tally → ℕ → Replay
+abbrev pub endOf : ℕ → Tally → ℕ → Replayed
 endOf s t count =
     cond (eqb (t .differs) 0)
     (cond (leb count (t .seen)) (cond (eqb (t .made) (totalMoves s)) Agrees (Early (t .made))) (Differs (t .made)))
     (Differs (t .differs))
 
 -- and where lines follow it of which this is the verdict
-unfoldable pub resolved : ℕ → List ℕ → List ℕ → List ℕ → Tally → CaptureVerdict → Replay
+unfoldable pub resolved : ℕ → List ℕ → List ℕ → List ℕ → Tally → CaptureVerdict → Replayed
 resolved s words marks aims t (isCapture hs ms) =
     cond (eqb (t .differs) 0)
     (cond (sameRecords hs (drop (t .seen) (expectedAt s words marks aims (t .made)))) (compared s words marks aims (t .made) ms) (Differs (t .made)))
@@ -135,5 +135,5 @@ resolved s words marks aims t (isCapture hs ms) =
 resolved s words marks aims t (noCapture k) = Refused 10 k
 
 -- the same of a starting table in its arrays
-abbrev pub resolvedFrom : ℕ → Start → Tally → CaptureVerdict → Replay
+abbrev pub resolvedFrom : ℕ → Start → Tally → CaptureVerdict → Replayed
 resolvedFrom s b t v = resolved s (take (cells s) (b .words)) (take (cells s) (b .marks)) (take (cells s) (b .aims)) t v

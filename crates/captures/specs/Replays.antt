@@ -18,8 +18,8 @@ use Rattle.answers.specs.Answers.{caseOf, verdict, accepted, sideCase, laneCase
 use Rattle.marks.specs.Marks.{marksCase}
 use Rattle.refusals.specs.Cases.{aimsCase}
 use Rattle.captures.specs.declared.Held.{Held}
-use Rattle.captures.specs.declared.Replay.{Replay}
-use Rattle.captures.specs.declared.Replay.the-variants.{Agrees, Differs, Early, Refused}
+use Rattle.captures.specs.declared.Replayed.{Replayed}
+use Rattle.captures.specs.declared.Replayed.the-variants.{Agrees, Differs, Early, Refused}
 use Rattle.captures.specs.Captures.{heldOf, Captured, CaptureVerdict, isCapture, noCapture, captureVerdict}
 
 -- the record in a slot of a cell, where there is one
@@ -59,7 +59,7 @@ abbrev pub agreesAt : ℕ → List ℕ → List ℕ → List ℕ → ℕ → Cap
 agreesAt s words marks aims number m = eqb (m .code) (codeAt s number) && sameRecords (m .records) (recordsAfter s words marks aims number)
 
 -- the moves behind so many that agree, up to the first that does not; without one, a capture that does not have the whole list ends early
-unfoldable pub compared : ℕ → List ℕ → List ℕ → List ℕ → ℕ → List Captured → Replay
+unfoldable pub compared : ℕ → List ℕ → List ℕ → List ℕ → ℕ → List Captured → Replayed
 compared s words marks aims made [] = cond (eqb made (totalMoves s)) Agrees (Early made)
 compared s words marks aims made (m ∷ ms) =
     cond (agreesAt s words marks aims (suc made) m) (compared s words marks aims (suc made) ms) (Differs (suc made))
@@ -69,11 +69,14 @@ abbrev pub captureCase : CaptureVerdict → Case
 captureCase (isCapture hs ms) = caseOf false 10 0
 captureCase (noCapture k) = caseOf true 10 k
 
--- the cases of a replay, 1, 2, 5, 6 and 10
-abbrev pub replayCases : ℕ → List ℕ → List ℕ → List ℕ → List ℕ → List Case
-replayCases s words marks aims capture =
-    sideCase s ∷ laneCase s (length words) ∷ laneCase s (length marks) ∷ laneCase s (length aims) ∷
-    marksCase marks ∷ aimsCase Concentrate s marks aims ∷ captureCase (captureVerdict s capture) ∷ []
+-- the cases of the starting table, 1, 2, 5 and 6
+abbrev pub startCases : ℕ → List ℕ → List ℕ → List ℕ → List Case
+startCases s words marks aims =
+    sideCase s ∷ laneCase s (length words) ∷ laneCase s (length marks) ∷ laneCase s (length aims) ∷ marksCase marks ∷ aimsCase Concentrate s marks aims ∷ []
+
+-- and of a replay
+abbrev pub replayCases : ℕ → List ℕ → List ℕ → List ℕ → CaptureVerdict → List Case
+replayCases s words marks aims v = startCases s words marks aims ++ (captureCase v ∷ [])
 
 -- the moves of a capture that is one
 abbrev pub movesIn : CaptureVerdict → List Captured
@@ -81,11 +84,13 @@ movesIn (isCapture hs ms) = ms
 movesIn (noCapture k) = []
 
 -- a refusal has its number and place; else it is the other
-abbrev pub unlessRefused : Answer → Replay → Replay
+abbrev pub unlessRefused : Answer → Replayed → Replayed
 unlessRefused a otherwise = cond (eqb (a .number) 0) otherwise (Refused (a .number) (a .place))
 
--- the whole: the first case that applies, and else what comparing the moves gives
-abbrev pub replayOf : ℕ → List ℕ → List ℕ → List ℕ → List ℕ → Replay
-replayOf s words marks aims capture =
-    unlessRefused (verdict (replayCases s words marks aims capture) (accepted 0 0))
-    (compared s words marks aims 0 (movesIn (captureVerdict s capture)))
+-- what a starting table and a verdict on a capture come to: the first case that applies, and else what comparing the moves gives
+unfoldable pub replayBy : ℕ → List ℕ → List ℕ → List ℕ → CaptureVerdict → Replayed
+replayBy s words marks aims v =
+    unlessRefused (verdict (replayCases s words marks aims v) (accepted 0 0)) (compared s words marks aims 0 (movesIn v))
+
+abbrev pub replayOf : ℕ → List ℕ → List ℕ → List ℕ → List ℕ → Replayed
+replayOf s words marks aims capture = replayBy s words marks aims (captureVerdict s capture)

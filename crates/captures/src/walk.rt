@@ -1,6 +1,6 @@
 // A capture read line by line beside the states of the rule.
 use crate::Held;
-use crate::Replay;
+use crate::Replayed;
 use crate::state::Records;
 use crate::state::Start;
 use crate::state::no_records;
@@ -195,7 +195,13 @@ fn tallied(side: usize, n: usize, tally: Tally, records: Records, numbers: Numbe
     ensures { λ r. ⌜ r ≡ nextOf side tally records numbers ⌝ }
 {
     match numbers {
-        Numbers::Two(number, code) => at_move(side, tally, records.count, number as usize, code as usize),
+        Numbers::Two(number, code) => at_move(
+            side,
+            tally,
+            records.count,
+            number as usize,
+            code as usize,
+        ),
         Numbers::Four(cell, slot, word, aim) => {
             let held = Held {
                 cell: cell as usize,
@@ -210,7 +216,14 @@ fn tallied(side: usize, n: usize, tally: Tally, records: Records, numbers: Numbe
 }
 
 // The records that a capture should have behind a line: those of the state after the last move, which is another one behind a move's line.
-fn expected(side: usize, n: usize, start: Start, records: Records, made: usize, now_made: usize) -> Records
+fn expected(
+    side: usize,
+    n: usize,
+    start: Start,
+    records: Records,
+    made: usize,
+    now_made: usize,
+) -> Records
     requires { ⌜ Started side start ⌝ }
     requires { ⌜ n ≡ cells side ⌝ }
     requires { ⌜ made ≤ «now_made» ⌝ }
@@ -225,24 +238,24 @@ fn expected(side: usize, n: usize, start: Start, records: Records, made: usize, 
 }
 
 // What a tally comes to at the end of a capture.
-fn ended(side: usize, tally: Tally, count: usize) -> Replay
+fn ended(side: usize, tally: Tally, count: usize) -> Replayed
     requires { ⌜ isSide side ≡ true ⌝ }
     ensures { λ r. ⌜ r ≡ endOf side tally count ⌝ }
 {
     if tally.differs != 0 {
-        return Replay::Differs(tally.differs);
+        return Replayed::Differs(tally.differs);
     }
     if tally.seen < count {
-        return Replay::Differs(tally.made);
+        return Replayed::Differs(tally.made);
     }
     if tally.made == total_moves(side) {
-        return Replay::Agrees;
+        return Replayed::Agrees;
     }
-    Replay::Early(tally.made)
+    Replayed::Early(tally.made)
 }
 
 // What a capture comes to, from the starting table on.
-pub(crate) fn walk(side: usize, n: usize, start: Start, capture: &[u8]) -> Replay
+pub(crate) fn walk(side: usize, n: usize, start: Start, capture: &[u8]) -> Replayed
     requires { ⌜ Started side start ⌝ }
     requires { ⌜ n ≡ cells side ⌝ }
     requires { ⌜ length (now capture) ≤ 65536 ⌝ }
@@ -256,11 +269,11 @@ pub(crate) fn walk(side: usize, n: usize, start: Start, capture: &[u8]) -> Repla
         let rest = &capture[at..];
         let end = bytes_before(rest, 10);
         if end == rest.len() {
-            return Replay::Refused(10, line);
+            return Replayed::Refused(10, line);
         }
         let numbers = numbers_in(&rest[..end]);
         let Next::On(next) = tallied(side, n, tally, records, numbers) else {
-            return Replay::Refused(10, line);
+            return Replayed::Refused(10, line);
         };
         records = expected(side, n, start, records, tally.made, next.made);
         tally = next;

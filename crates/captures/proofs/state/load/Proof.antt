@@ -61,8 +61,7 @@ loop-again c =
     let s = l .before in
     let h = c .before .before .before .loop-test .taken in
     let i = l .loop .inv in
-    let room = s .pre .0 in
-    (
+    let room = s .pre .0 in (
       omega arith,
       (
         copied-next room h (i .1 .0),
