@@ -138,11 +138,11 @@ fn is_first(held: Held, records: Records, seen: usize) -> bool
     requires { ⌜ Roomy 162 records ⌝ }
     ensures { λ r. ⌜ r ≡ isFirst held (drop seen (listIn records)) ⌝ }
 {
-    if records.count <= seen {
-        return false;
+    if seen < records.count {
+        let list = records.list;
+        return same_held(held, list[seen]);
     }
-    let list = records.list;
-    same_held(held, list[seen])
+    false
 }
 
 // Behind the line of a move.
