@@ -1,33 +1,20 @@
 -- How long an answer can be.
-use Prim.Native.Nat.{ℕ, zero, suc, _+_, _*_, _/_, _%_, _≤_}
+use Prim.Native.Nat.{ℕ, zero, suc, _+_, _*_, _≤_}
 use mathlib.Core.Path.{_≡_, refl}
-use mathlib.Core.Bool.{Bool, true, false, cond}
-use mathlib.Core.List.{List, [], _∷_, _++_}
+use mathlib.Core.List.{List}
 use native.Mathlib.Nat.{suc-mul}
 use native.Mathlib.Omega.{arith}
 use lib.ListN.{length, getD, length-append}
-use lib.Dec.{ltb}
 use Rattle.array.specs.declared.moves.Way.the-variants.{Right, Left, Up, Down}
 use Rattle.array.specs.declared.moves.Move.{Move}
 use Rattle.array.specs.declared.moves.Move.the-variants.{Swap, Electronic}
 use Rattle.array.specs.declared.moves.Logged.{Logged}
 use Rattle.array.specs.declared.moves.Logged.the-variants.{Line, NoMove}
-use Rattle.printing.specs.Printed.{digits, decimal, line, rows}
+use Rattle.printing.specs.Printed.{line, rows}
+use Rattle.printing.proofs.Digits.{decimal-short}
 use Rattle.answertext.specs.declared.Totals.{Totals}
 use Rattle.answertext.specs.Log.{lines, lineOf, totalsOf}
 use Rattle.answertext.specs.Answers.{kindText, wayText, header, moveLine, allLine, recordLine, moveRow, recordRow, logText, answerText, refusedText}
-
-few-digits : (k n : ℕ) → length (digits k n) ≤ k
-unfolding digits
-few-digits zero n = omega arith
-few-digits (suc k) n = go (ltb n 10) (few-digits k (n / 10))
-  where
-    go : (t : Bool) → length (digits k (n / 10)) ≤ k → length (cond t ((48 + n) ∷ []) (digits k (n / 10) ++ ((48 + n % 10) ∷ []))) ≤ suc k
-    go true h = omega arith
-    go false h = rw length-append (omega arith)
-
-decimal-short : (n : ℕ) → length (decimal n) ≤ 20
-decimal-short n = few-digits 20 n
 
 step-short : (m : Move) → length (kindText m) + length (wayText m) ≤ 6
 unfolding kindText wayText
@@ -72,12 +59,13 @@ unfolding logText
 log-short l n words =
     simp length-append (omega (arith, header-long, rows-short (moveRow l) 50 n (move-row-short l), all-short (totalsOf l n), rows-short (recordRow words) 42 (length words) (record-row-short words)))
 
--- the answer to a job fits 196,608 bytes, and so does a refusal
+-- the answer to a job fits 196,608 bytes
 pub answer-fits : (codes moved words : List ℕ) → length codes ≤ 51 → length words ≤ 4096 → length (answerText codes moved words) ≤ 196608
 answer-fits codes moved words h k =
     let n : lines codes moved ≤ 51 = omega arith in
     omega (arith, log-short (lineOf codes moved) (lines codes moved) words)
 
-pub refusal-fits : (number place : ℕ) → length (refusedText number place) ≤ 196608
+-- a refusal is one short line
+pub refusal-short : (number place : ℕ) → length (refusedText number place) ≤ 50
 unfolding refusedText line
-refusal-fits number place = simp length-append (omega (arith, decimal-short number, decimal-short place))
+refusal-short number place = simp length-append (omega (arith, decimal-short number, decimal-short place))

@@ -17,13 +17,13 @@ use Rattle.answers.specs.Answers.{verdict, acceptedBy}
 use Rattle.answers.specs.Entry.{Entry, inFront}
 use Rattle.array.proofs.Board.{side-known}
 use Rattle.lists.proofs.Counts.{prefix-sum-length, concentrate-length}
-use Rattle.answers.proofs.Verdicts.{accepted-is, side-passes, lane-passes, log-passes}
 use Rattle.answers.proofs.Entering.{codes-length}
 use Rattle.slots.specs.declared.Cell.{Cell}
 use Rattle.slots.specs.Cells.{Sized}
-use Rattle.marks.proofs.Checked.{good-passes}
 use Rattle.ranking.specs.Ranks.{aimIn, ranks}
 use Rattle.ranking.specs.Entries.{rankCases}
+use Rattle.ranking.specs.Inside.{GoodMarks}
+use Rattle.ranking.proofs.Answering.{rank-takes}
 use Rattle.refusals.specs.Cases.{fullCases, Good}
 use Rattle.refusals.proofs.Verdicting.{Fitting}
 use Rattle.refusals.proofs.Accepting.{Asked, asked-good, full-accepted}
@@ -33,13 +33,7 @@ use Rattle.jobs.specs.Inside.{JobBoard, Settled}
 use Rattle.jobs.proofs.Ended.{word-there}
 
 module _ (s : ℕ) (side : isSide s ≡ true) (marks : List ℕ) (long : length marks ≡ cells s) (good : (k : ℕ) → k < length marks → getD marks k 0 < 2) where
-  -- rank accepts
-  pub rank-accepts : (aims log : ℕ) (a : Answer) → aims ≡ cells s → 51 ≤ log → verdict (rankCases s marks aims log) a ≡ a
-  rank-accepts aims log a e h =
-      let room = log-passes (prefixSumRuns s) log (omega (arith, prefix-sum-length s, side-known s side .most)) in
-      accepted-is (rankCases s marks aims log) a (side-passes s side, (lane-passes s (length marks) long, (lane-passes s aims e, (room, (good-passes marks good, tt)))))
-
-  -- its aims are those that concentrate asks for
+  -- the aims that rank leaves are those that concentrate asks for
   ranks-asked : Asked Concentrate s marks (ranks s marks)
   ranks-asked = record {
     mark = λ i h. omega (arith, good i (omega arith));
@@ -78,10 +72,8 @@ module _ {s : ℕ} {w m a w₂ m₂ a₂ codes moved : List ℕ} (b : JobBoard s
   few : totalMoves s ≤ 51
   few = omega (arith, side-known s (b .side) .most)
 
-  rank-takes : {r : Answer} → r ≡ verdict (rankCases s m (length a) (length codes)) (acceptedBy (prefixSumRuns s)) → r .number ≡ 0
-  rank-takes e =
-      ap (λ (x : Answer). x .number)
-      (e ∙ rank-accepts s (b .side) m long (b .marked) (length a) (length codes) (acceptedBy (prefixSumRuns s)) (b .sized .aims) (omega (arith, b .codes-room)))
+  marks-good : GoodMarks s m
+  marks-good = record { side = b .side; size = long; good = b .marked }
 
   concentrate-takes : (codes′ : List ℕ) {r : Answer} → length codes′ ≡ 51
       → r ≡ verdict (fullCases Concentrate s (sizesOf w w₂ m₂ a₂) m (ranks s m) (length codes′) (length moved)) (acceptedBy (concentrateRuns s)) → r .number ≡ 0
@@ -100,7 +92,7 @@ module _ {s : ℕ} {w m a w₂ m₂ a₂ codes moved : List ℕ} (b : JobBoard s
       ((codes″ ≡ inFront (codesOf (concentrateRuns s)) codes′) × (moved″ ≡ inFront (movedCounts Concentrate s (totalMoves s) m a′) moved)) K₂ r₂
       → ((r : ℕ) → getD w′ r 0 ≡ T r .front .word) → Settled s w m w′ codes″ moved″
   settled {r₁} {r₂} {K₁} {K₂} {a′} {codes′} z₁ z₂ words =
-      let ranked = rank-takes (z₁ .answer) in
+      let ranked = rank-takes marks-good (length a) (length codes) (b .sized .aims) (omega (arith, b .codes-room)) (z₁ .answer) in
       let room : length (codesOf (prefixSumRuns s)) ≤ length codes = omega (arith, codes-length (prefixSumRuns s), prefix-sum-length s, few, b .codes-room) in
       let c : length codes′ ≡ 51 = ap length (z₁ .logs ranked) ∙ log-long (codesOf (prefixSumRuns s)) codes room ∙ b .codes-room in
       let z = rw (z₁ .lanes ranked) at z₂ in

@@ -12,9 +12,10 @@ ghost use Prim.Native.Nat.{ℕ, _<_, _≤_};
 ghost use lib.ListN.{length, getD};
 ghost use Rattle.laws.specs.Lent.{old, new};
 ghost use Rattle.array.specs.Cells.{isSide, cells};
+ghost use Rattle.printing.specs.Buffers.{OutFilled};
 ghost use Rattle.jobtext.specs.Verdicts.{textVerdict};
 ghost use Rattle.jobs.specs.Outputs.{outputOf};
-ghost use Rattle.jobs.specs.Filled.{OutFilled, refusalOf, printedOf};
+ghost use Rattle.jobs.specs.Filled.{refusalOf, printedOf};
 ghost use Rattle.jobs.specs.Inside.{JobBoard, Settled, JobLanes, lanesText};
 
 // The line of a refused job: nothing where the job is one.

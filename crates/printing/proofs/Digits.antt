@@ -1,13 +1,29 @@
--- The digits of a number, written one after the other.
+-- The digits of a number: how many there are, and that they are written one after the other.
 use Prim.Native.Nat.{ℕ, zero, suc, _+_, _-_, _/_, _%_, _≤_, _<_}
 use mathlib.Core.Path.{_≡_, refl}
-use mathlib.Core.List.{List, [], _∷_}
+use mathlib.Core.Bool.{Bool, true, false, cond}
+use mathlib.Core.List.{List, [], _∷_, _++_}
 use native.Mathlib.Numerals.{sub-one}
 use native.Mathlib.Omega.{arith}
+use lib.ListN.{length, length-append}
+use lib.Dec.{ltb}
 use borrow.Author.Tests.{lt-ltb, le-ltb}
-use Rattle.printing.specs.Printed.{digits, field}
+use Rattle.printing.specs.Printed.{digits, decimal, field}
 use Rattle.printing.specs.Buffers.{Written}
 use Rattle.printing.proofs.Putting.{nothing, one-then}
+
+few-digits : (k n : ℕ) → length (digits k n) ≤ k
+unfolding digits
+few-digits zero n = omega arith
+few-digits (suc k) n = go (ltb n 10) (few-digits k (n / 10))
+  where
+    go : (t : Bool) → length (digits k (n / 10)) ≤ k → length (cond t ((48 + n) ∷ []) (digits k (n / 10) ++ ((48 + n % 10) ∷ []))) ≤ suc k
+    go true h = omega arith
+    go false h = rw length-append (omega arith)
+
+-- a number takes twenty bytes at most
+pub decimal-short : (n : ℕ) → length (decimal n) ≤ 20
+decimal-short n = few-digits 20 n
 
 module _ (n : ℕ) {out : List ℕ} {at : ℕ} where
   pub digits-none : (most : ℕ) → most ≡ 0 → Written out at (digits most n) at out

@@ -1,3 +1,4 @@
 pub mod Putting
+pub mod Filling
 pub mod Digits
 pub mod Meaning

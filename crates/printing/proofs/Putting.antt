@@ -5,8 +5,8 @@ use mathlib.Core.Bool.{Bool, true, false}
 use mathlib.Core.List.{List, [], _∷_, _++_}
 use native.Mathlib.Numerals.{add-one}
 use native.Mathlib.Omega.{arith}
-use lib.ListN.{length, getD, take, drop, set, length-append}
-use lib.Seq.{sets, length-sets, take-suc, take-all, sets-eq}
+use lib.ListN.{length, getD, take, set, length-append}
+use lib.Seq.{sets, length-sets, take-suc, take-all}
 use lib.Dec.{leb}
 use borrow.Author.Tests.{leb-true, leb-false}
 use Rattle.laws.proofs.Stores.{sets-append, sets-past}
@@ -90,9 +90,3 @@ module _ {f : ℕ → List ℕ} {n : ℕ} {out₀ : List ℕ} {at : ℕ} {out : 
   rows-end h =
       let e : n ≡ i = omega arith in
       rw e (p .written)
-
--- a text for which there is room stands whole at the start of the buffer
-pub whole : {out text : List ℕ} {r : ℕ} {out′ : List ℕ} → length text ≤ length out → Written out 0 text r out′ → (r ≡ length text) × (out′ ≡ text ++ drop (length text) out)
-whole {out} {text} h w =
-    let z : 0 + length text ≡ length text = omega arith in
-    (omega (arith, w .end), w .is ∙ sets-eq text out 0 (omega arith) ∙ rw z)

@@ -1,4 +1,4 @@
-use Rattle.jobs.proofs.Filling.{filled-fits, filled-part}
+use Rattle.printing.proofs.Filling.{filled-fits, filled-part}
 use borrow.Author.Needs.{needs}
 use Rattle.job.proofs.main.Statement.{statement}
 use Rattle.job.proofs.main.Tie as tie

@@ -1,6 +1,6 @@
 -- `jobs::run` meets its contract: what is read is refused, or solved.
-use mathlib.Core.Path.{sym}
-use Rattle.jobs.proofs.Answered.{ready-square, ready-cells, words-room, marks-room, ready-lanes, ready-filled, refused-filled}
+use Rattle.jobtext.proofs.Boards.{ready-square, ready-cells, words-room, marks-room, words-part, marks-part}
+use Rattle.jobs.proofs.Answered.{ready-lanes, ready-filled, refused-filled}
 use borrow.Author.Needs.{needs}
 use Rattle.jobs.proofs.run.Statement.{statement}
 use Rattle.jobs.proofs.run.Tie as tie
@@ -30,22 +30,16 @@ mul-cells-3 : tie.Need-mul-cells-3
 mul-cells-3 c = search ready-cells
 
 array-borrow-prefix-words : tie.Need-array-borrow-prefix-words
-array-borrow-prefix-words c = words-room _ (c .before .before .before .before .read .ensures) _ _ (c .before .before .job .given .1)
+array-borrow-prefix-words c = search words-room
 
 slice-aggregate-solve : tie.Need-slice-aggregate-solve
-slice-aggregate-solve c =
-    let j = c .before .before .before in
-    let r = j .before .before in
-    sym (ready-lanes _ (r .read .ensures) _ _ (j .job .given .1) .words-long)
+slice-aggregate-solve c = search words-part
 
 array-borrow-prefix-marks : tie.Need-array-borrow-prefix-marks
-array-borrow-prefix-marks c = marks-room _ (c .before .before .before .before .before .read .ensures) _ _ (c .before .before .before .job .given .1)
+array-borrow-prefix-marks c = search marks-room
 
 slice-aggregate-solve-2 : tie.Need-slice-aggregate-solve-2
-slice-aggregate-solve-2 c =
-    let j = c .before .before .before .before in
-    let r = j .before .before in
-    sym (ready-lanes _ (r .read .ensures) _ _ (j .job .given .1) .marks-long)
+slice-aggregate-solve-2 c = search marks-part
 
 solve-requires : tie.Need-solve-requires
 solve-requires c κs = search ready-lanes

@@ -1,5 +1,5 @@
 -- `replay::answer` meets its contract: the line that it writes is a part of the buffer.
-use Rattle.replays.proofs.Filling.{filled-fits, filled-part}
+use Rattle.printing.proofs.Filling.{filled-fits, filled-part}
 use borrow.Author.Needs.{needs}
 use Rattle.replay.proofs.answer.Statement.{statement}
 use Rattle.replay.proofs.answer.Tie as tie
