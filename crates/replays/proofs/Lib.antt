@@ -1,1 +1,3 @@
-pub mod Filling
+pub mod Lines
+pub mod Replaying
+pub mod Shown
