@@ -90,11 +90,17 @@ module _ (s : ℕ) (es : List CellWord) (side : isSide s ≡ true) (d : Rising 0
       ap (λ (b : ℕ). entries (changing s b (markedCell marks (cells s))) 0 (totalMoves s)) counted
       ∙ counts-same s es (markedCell marks (cells s)) homes
 
+  word-at : (r : ℕ) → r < length es → getD words (markedCell marks (cells s) r) 0 ≡ getD (wordsIn es) r 0
+  word-at r h =
+      ap (λ (i : ℕ). getD words i 0) (homes r h)
+      ∙ part-at s es side d (λ e. e .word) (homeOf es r) (home-in (cells s) es 0 r h d .1)
+      ∙ home-value es (cells s) few d (λ e. e .word) r h
+
   words-same : entries (λ r. getD words (markedCell marks (cells s) r) 0) 0 (length es) ≡ wordsIn es
   words-same =
       sym
       (entries-all (λ r. getD words (markedCell marks (cells s) r) 0) (length es) 0 (wordsIn es) (length-map es (λ e. e .word))
-      (λ r h. sym (ap (λ (i : ℕ). getD words i 0) (homes r h) ∙ part-at s es side d (λ e. e .word) (homeOf es r) (home-in (cells s) es 0 r h d .1) ∙ home-value es (cells s) few d (λ e. e .word) r h)))
+      (λ r h. sym (word-at r h)))
 
   job-text : lanesText s (length es) words marks ≡ outputOf (isJob s es)
   unfolding lanesText outputOf

@@ -60,7 +60,8 @@ zeros-part (suc n) zero h = absurd (omega arith)
 zeros-part (suc n) (suc m) h = ap (λ (l : List ℕ). 0 ∷ l) (zeros-part n m (omega arith))
 
 -- an entry of a lane
-pub lane-at : (es : List CellWord) (end : ℕ) → end ≤ 4096 → Rising 0 end es → (value : CellWord → ℕ) (k : ℕ) → getD (laneIn value es) k 0 ≡ cellValue value es k 0
+pub lane-at : (es : List CellWord) (end : ℕ) → end ≤ 4096 → Rising 0 end es → (value : CellWord → ℕ) (k : ℕ)
+    → getD (laneIn value es) k 0 ≡ cellValue value es k 0
 lane-at es end room d value k = table value es 0 end (replicate 4096 0) k d (rw length-replicate room) ∙ ap (cellValue value es k) (zeros 4096 k)
 
 lane-long : (value : CellWord → ℕ) (es : List CellWord) → length (laneIn value es) ≡ 4096
