@@ -1,17 +1,16 @@
 -- The lines after the first, one at a time: what `read_cells` keeps from turn to turn. Assumes nothing.
-use mathlib.Core.Path.{_≡_, refl, sym, ap, _∙_}
-use mathlib.Core.List.{List, []}
+use mathlib.Core.Path.{_≡_, refl, sym, ap, ap₂, _∙_}
+use mathlib.Core.List.{List, [], _∷_}
 use Prim.Native.Nat.{ℕ, suc, _+_, _-_, _*_, _≤_, _<_}
 use native.Mathlib.Omega.{arith}
 use native.Mathlib.Numerals.{add-one}
-use lib.ListN.{length, take, drop, set, length-drop, drop-of-length-le}
-use lib.Seq.{drop-drop}
+use lib.ListN.{length, take, drop, set, drop-of-length-le}
 use mir.Syntax.{w64}
 use mir.Val.{Fits}
 use Rattle.laws.proofs.Numbers.{square-grows, fourth-grows}
-use Rattle.texts.specs.Lines.{bytesBefore, linesOf}
+use Rattle.texts.specs.Lines.{bytesBefore, TextLine, ended, linesOf}
 use Rattle.texts.specs.Bytes.{lf}
-use Rattle.texts.proofs.Ended.{lines-ended, lines-unended}
+use Rattle.texts.proofs.Ended.{leftOf, left-unended, left-ended, left-within}
 use Rattle.jobtext.specs.Verdicts.{markLine, CellWord, TextVerdict, isJob, noJob, also, cellsFrom}
 use Rattle.array.specs.Cells.{cells}
 use Rattle.jobtext.specs.Lanes.{jobOf, withCells, WithCells, CellsRead}
@@ -19,7 +18,6 @@ use Rattle.jobtext.specs.declared.MarkLine.{MarkLine}
 use Rattle.jobtext.specs.declared.MarkLine.the-variants.{Mark, Malformed}
 use Rattle.jobtext.specs.declared.Job.{Job}
 use Rattle.jobtext.specs.declared.Job.the-variants.{Ready, Refused}
-use Rattle.texts.proofs.Reading.{rest}
 use Rattle.jobtext.proofs.Entries.{mark-in-order}
 
 pub square : (s : ℕ) → s ≤ 8 → s * s ≤ 64
@@ -34,20 +32,15 @@ square-fits s h = record { fits = omega (arith, square s h) }
 pub cells-fit : (s : ℕ) → s ≤ 8 → Fits w64 (s * s * (s * s))
 cells-fit s h = record { fits = omega (arith, cells-few s h) }
 
--- the verdict on a text that starts with line k, by its first line
-module _ (s next k : ℕ) (t : List ℕ) where
-  by-unended : bytesBefore lf t ≡ length t → 0 < length t → cellsFrom s next k (linesOf t) ≡ noJob 8 k
+-- the verdict on lines from line k on, by the first
+module _ (s next k : ℕ) (line : List ℕ) (ls : List TextLine) where
+  by-malformed : markLine next (cells s) line ≡ Malformed → cellsFrom s next k (ended line ∷ ls) ≡ noJob 8 k
   unfolding cellsFrom
-  by-unended e h = rw (lines-unended t e h)
+  by-malformed e = rw (e, cellsFrom)
 
-  module _ (h : bytesBefore lf t < length t) where
-    by-malformed : markLine next (cells s) (take (bytesBefore lf t) t) ≡ Malformed → cellsFrom s next k (linesOf t) ≡ noJob 8 k
-    unfolding cellsFrom
-    by-malformed e = rw (lines-ended t h, e, cellsFrom)
-
-    by-cell : (i w : ℕ) → markLine next (cells s) (take (bytesBefore lf t) t) ≡ Mark i w → cellsFrom s next k (linesOf t) ≡ also i w (cellsFrom s (suc i) (suc k) (linesOf (drop (suc (bytesBefore lf t)) t)))
-    unfolding cellsFrom
-    by-cell i w e = rw (lines-ended t h, e, cellsFrom)
+  by-cell : (i w : ℕ) → markLine next (cells s) line ≡ Mark i w → cellsFrom s next k (ended line ∷ ls) ≡ also i w (cellsFrom s (suc i) (suc k) ls)
+  unfolding cellsFrom
+  by-cell i w e = rw (e, cellsFrom)
 
 -- a verdict on the rest of a job of which m cells were read
 abbrev jobWith : ℕ → TextVerdict → Job
@@ -117,34 +110,26 @@ module _ {text : List ℕ} {side : ℕ} {words₀ marks₀ words marks : List �
   refuse : unread side text next line at ≡ noJob 8 line → Done text side words₀ marks₀ words marks (Refused 8 line)
   refuse e = record { job = rw e at (k .job); words-laid = k .words-laid words (rw e tt); marks-laid = k .marks-laid marks (rw e tt) }
 
-  module _ (h : at < length text) (end : ℕ) (e : end ≡ bytesBefore lf (take (length text - at) (drop at text))) where
-    at-end : end ≡ bytesBefore lf (drop at text)
-    at-end = e ∙ rw rest
+  module _ (h : at < length text) (end : ℕ) (e : end ≡ bytesBefore lf (leftOf text at)) where
+    pub cells-unended : end ≡ length (leftOf text at) → Done text side words₀ marks₀ words marks (Refused 8 line)
+    unfolding cellsFrom
+    cells-unended u = refuse (rw (left-unended text at h end e u))
 
-    long : length (take (length text - at) (drop at text)) ≡ length (drop at text)
-    long = rw rest
-
-    pub cells-unended : end ≡ length (take (length text - at) (drop at text)) → Done text side words₀ marks₀ words marks (Refused 8 line)
-    cells-unended u = refuse (by-unended side next line (drop at text) (omega (arith, at-end, long)) (rw length-drop (omega arith)))
-
-    module _ (b : end ≤ length (take (length text - at) (drop at text))) (u : end ≡ length (take (length text - at) (drop at text)) → ⊥)
-        (r : MarkLine) (r-read : r ≡ markLine next (cells side) (take end (take (length text - at) (drop at text)))) where
-      first : r ≡ markLine next (cells side) (take (bytesBefore lf (drop at text)) (drop at text))
-      first = r-read ∙ rw (at-end, rest)
-
-      has : bytesBefore lf (drop at text) < length (drop at text)
-      has = omega (arith, at-end, long)
+    module _ (b : end ≤ length (leftOf text at)) (u : end ≡ length (leftOf text at) → ⊥)
+        (r : MarkLine) (r-read : r ≡ markLine next (cells side) (take end (leftOf text at))) where
+      first : cellsFrom side next line (linesOf (drop at text)) ≡ cellsFrom side next line (ended (take end (leftOf text at)) ∷ linesOf (drop (at + (end + 1)) text))
+      first = ap (cellsFrom side next line) (left-ended text at h end e b u)
 
       pub cells-malformed : r ≡ Malformed → Done text side words₀ marks₀ words marks (Refused 8 line)
-      cells-malformed m = refuse (by-malformed side next line (drop at text) has (sym first ∙ m))
+      cells-malformed m = refuse (first ∙ by-malformed side next line (take end (leftOf text at)) _ (sym r-read ∙ m))
 
       module _ (i w : ℕ) (c : r ≡ Mark i w) where
         pub cell-in-order : (next ≤ i) × (i < cells side)
-        cell-in-order = mark-in-order next (cells side) (take end (take (length text - at) (drop at text))) i w (sym r-read ∙ c)
+        cell-in-order = mark-in-order next (cells side) (take end (leftOf text at)) i w (sym r-read ∙ c)
 
         pub cells-next : Cells text side words₀ marks₀ (set words i w) (set marks i 1) (at + (end + 1)) (line + 1) (i + 1) (marked + 1)
         cells-next = record {
-          within = omega (arith, at-end, long, length-drop at text, has);
+          within = left-within text at h end e b u;
           room = k .room;
           low = omega (arith, cell-in-order);
           few = omega (arith, cell-in-order);
@@ -155,7 +140,9 @@ module _ {text : List ℕ} {side : ℕ} {words₀ marks₀ words marks : List �
         }
           where
             step : unread side text next line at ≡ also i w (unread side text (i + 1) (line + 1) (at + (end + 1)))
-            step = by-cell side next line (drop at text) has i w (sym first ∙ c) ∙ rw (← at-end) (simp (drop-drop, add-one))
+            step =
+                first ∙ by-cell side next line (take end (leftOf text at)) _ i w (sym r-read ∙ c)
+                ∙ ap₂ (λ (m n : ℕ). also i w (unread side text m n (at + (end + 1)))) (sym (add-one i)) (sym (add-one line))
 
 -- the index of a marked cell is one of the 4,096
 module _ (next s : ℕ) (line : List ℕ) (r : MarkLine) (r-read : r ≡ markLine next (cells s) line) (i w : ℕ) (c : r ≡ Mark i w) (room : cells s ≤ 4096) where
