@@ -5,3 +5,5 @@ pub mod Resolving
 pub mod Walking
 pub mod Judged
 pub mod Order
+pub mod Agreeing
+pub mod Shown
