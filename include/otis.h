@@ -84,9 +84,8 @@ uint32_t otis_version(void);
 #define OTIS_MAX_MOVES 51
 
 /* How many bytes of stack a call takes at most, at any side: for the size of a thread's stack. Measured by painting the stack
- * (bench/c/stack.c): rank takes some 91,000, concentrate and distribute some 10,000. The plain
- * number is for each of the plain functions, which keep no table; the last is that of the replay, on the longest captures. The
- * tests hold the archive to these numbers. */
+ * (bench/c/stack.c): rank takes some 91,000, concentrate and distribute some 10,000, the replay some 27,000. The plain
+ * number is for each of the plain functions, which keep no table. The tests hold the archive to these numbers. */
 #define OTIS_RANK_STACK 98304
 #define OTIS_CONCENTRATE_STACK 16384
 #define OTIS_DISTRIBUTE_STACK 16384

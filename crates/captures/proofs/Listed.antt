@@ -1,7 +1,7 @@
 -- Records listed slot after slot and cell after cell.
 use Prim.Native.Nat.{ℕ, zero, suc, _+_, _*_, _≤_, _<_}
 use mathlib.Core.Path.{_≡_, refl, sym, ap, _∙_}
-use mathlib.Core.List.{List, [], _∷_, _++_}
+use mathlib.Core.List.{List, [], _∷_, _++_, append-nil, append-assoc}
 use native.Mathlib.Omega.{arith}
 use native.Mathlib.Numerals.{add-one}
 use borrow.Author.Tests.{eq-eqb, ne-eqb}
@@ -14,14 +14,6 @@ use Rattle.captures.specs.declared.state.Records.{Records}
 use Rattle.captures.specs.Captures.{heldOf}
 use Rattle.captures.specs.Replays.{heldIn, heldBelow}
 use Rattle.captures.specs.Inside.{listIn, Roomy, WithMore, Listing}
-
-append-nil : (l : List Held) → l ++ [] ≡ l
-append-nil [] = refl
-append-nil (x ∷ l) = ap (x ∷_) (append-nil l)
-
-append-assoc : (l m n : List Held) → l ++ m ++ n ≡ l ++ (m ++ n)
-append-assoc [] m n = refl
-append-assoc (x ∷ l) m n = ap (x ∷_) (append-assoc l m n)
 
 -- a slot without a record, and one with it
 pub slot-empty : (cell slot : ℕ) (x : Rec) (r : Records) → Roomy 161 r → x .mark ≡ 0 → WithMore (heldIn cell slot x) 1 r r
