@@ -78,7 +78,8 @@ module _ (s : ℕ) (words marks aims : List ℕ) {judged : Answer} (e : judged �
     }
 
     -- then the capture decides
-    by-capture : (v : CaptureVerdict) {r : Answer} → r ≡ verdict (captureCase v ∷ []) (accepted 0 0) → r ≡ verdict (replayCases s words marks aims v) (accepted 0 0)
+    by-capture : (v : CaptureVerdict) {r : Answer} → r ≡ verdict (captureCase v ∷ []) (accepted 0 0)
+        → r ≡ verdict (replayCases s words marks aims v) (accepted 0 0)
     by-capture v f = later (startCases s words marks aims) (captureCase v ∷ []) (accepted 0 0) (accepted 0 0) start refl z f
 
     capture-refused : (k : ℕ) → Refused 10 k ≡ replayBy s words marks aims (noCapture k)

@@ -41,7 +41,8 @@ pub front-room : (s n : ℕ) (l : List ℕ) → n ≡ cells s → length (take (
 front-room s n l e h = omega (arith, e, h, length-take (cells s) l)
 
 -- a starting table in its arrays, and the fronts of three more of at least as many entries
-pub board-lent : (s n made : ℕ) (b : Start) (x y v : List ℕ) → Started s b → n ≡ cells s → made ≤ totalMoves s → n ≤ length x → n ≤ length y → n ≤ length v
+pub board-lent : (s n made : ℕ) (b : Start) (x y v : List ℕ) → Started s b → n ≡ cells s → made ≤ totalMoves s
+    → n ≤ length x → n ≤ length y → n ≤ length v
     → Startable s (take n (b .words)) (take n (b .marks)) (take n (b .aims))
     × (Sized (cells s) (take n (b .words)) (take n (b .marks)) (take n (b .aims)) (take n x) (take n y) (take n v) × (made ≤ totalMoves s))
 board-lent s n made b x y v z e h i j k =
@@ -79,6 +80,10 @@ copied-next {l} {x} {i} s h z = record {
 
 pub copied-end : {l x : List ℕ} {i : ℕ} → i ≡ length l → Copied l x i → take (length l) x ≡ l
 copied-end {l} {x} {i} e z = ap (λ (k : ℕ). take k x) (sym e) ∙ z .front ∙ take-all i l (omega arith)
+
+-- the state after so many moves is that of the run up to that cut
+pub state-stood : (s made : ℕ) (words marks aims : List ℕ) → Stood Concentrate s made words marks aims (stateAfter s words marks aims made)
+state-stood s made words marks aims = record { shown = λ j h. refl }
 
 -- tables that hold the same in their first n cells hold the same records there
 held-cong : (T U : ℕ → Cell) (n : ℕ) → ((j : ℕ) → j < n → T j ≡ U j) → heldBelow T n ≡ heldBelow U n

@@ -72,7 +72,9 @@ next-one s made number total side e t =
 -- what a number in its turn is
 pub turn-known : (s made number : ℕ) → inTurn s made number ≡ true → (number ≡ suc made) × (number ≤ totalMoves s)
 turn-known s made number h =
-    (eqb-true number (suc made) (both-left (eqb number (suc made)) (leb number (totalMoves s)) h), leb-true number (totalMoves s) (both-right (eqb number (suc made)) (leb number (totalMoves s)) h))
+    let next = eqb number (suc made) in
+    let few = leb number (totalMoves s) in
+    (eqb-true number (suc made) (both-left next few h), leb-true number (totalMoves s) (both-right next few h))
 
 -- no list has more than 51 moves
 pub moves-fit : (s made : ℕ) → isSide s ≡ true → made ≤ totalMoves s → Fits w64 (made + 1)

@@ -23,7 +23,8 @@ use Rattle.captures.specs.declared.walk.Next.the-variants.{On, Bad}
 use Rattle.captures.specs.declared.Replayed.{Replayed}
 use Rattle.captures.specs.declared.Replayed.the-variants.{Refused}
 use Rattle.captures.specs.Captures.{heldOf, orderOf, CaptureVerdict, isCapture, noCapture, inTurn, inPlace, captureFrom}
-use Rattle.captures.specs.Inside.{listIn, Roomy, Listing, Small, Started, expectedAt, noTally, behindMove, behindRecord, nextOf, endOf, resolved, resolvedFrom, expectedFrom}
+use Rattle.captures.specs.Inside.{listIn, Roomy, Listing, Small, Started, expectedAt, expectedFrom}
+use Rattle.captures.specs.Inside.{noTally, behindMove, behindRecord, nextOf, endOf, resolved, resolvedFrom}
 use Rattle.captures.proofs.Starting.{few-cells}
 use Rattle.captures.proofs.Telling.{turn-known, place-known}
 use Rattle.captures.proofs.Resolving.{end-resolved, move-resolved, record-resolved}
@@ -182,7 +183,8 @@ module _ {s : ℕ} {b : Start} {text : List ℕ} {at line : ℕ} {t : Tally} {r 
           ∙ refused-line s line _ (take end (leftOf text at)) t r (sym told ∙ v))
 
       module _ {t′ : Tally} (v : y ≡ On t′) where
-        one : Stepped s (take (cells s) (b .words)) (take (cells s) (b .marks)) (take (cells s) (b .aims)) line (linesOf (drop (at + (end + 1)) text)) (take end (leftOf text at)) t t′
+        one : Stepped s (take (cells s) (b .words)) (take (cells s) (b .marks)) (take (cells s) (b .aims))
+            line (linesOf (drop (at + (end + 1)) text)) (take end (leftOf text at)) t t′
         one = stepped s small _ _ _ line _ (take end (leftOf text at)) t r (k .listed) (k .made-few) (k .seen-few) t′ (sym told ∙ v)
 
         -- the state that the records behind the line are those of

@@ -26,7 +26,8 @@ ghost use Rattle.texts.specs.Lines.{linesOf};
 ghost use Rattle.captures.specs.declared.walk.Next.the-variants.{On, Bad};
 ghost use Rattle.captures.specs.Captures.{orderOf, inTurn, inPlace, captureFrom};
 ghost use Rattle.captures.specs.Replays.{codeAt, sameHeld};
-ghost use Rattle.captures.specs.Inside.{listIn, Roomy, Listing, Small, Started, expectedFrom, earlier as earlierOf, noTally, behindMove, isFirst, behindRecord, nextOf, endOf, resolvedFrom};
+ghost use Rattle.captures.specs.Inside.{listIn, Roomy, Listing, Small, Started, expectedFrom};
+ghost use Rattle.captures.specs.Inside.{earlier as earlierOf, noTally, behindMove, isFirst, behindRecord, nextOf, endOf, resolvedFrom};
 
 // What was read of a capture: how many moves; the place in the order that the next record has to reach; how many records were seen behind
 // the last move; and the first move that differs, or 0.

@@ -65,7 +65,10 @@ loop-again c =
       omega arith,
       (
         copied-next room h (i .1 .0),
-        (copied-next (omega (arith, room, s .pre .1 .0)) (omega (arith, h, s .pre .1 .0)) (i .1 .1 .0), copied-next (omega (arith, room, s .pre .1 .1)) (omega (arith, h, s .pre .1 .1)) (i .1 .1 .1)),
+        (
+          copied-next (omega (arith, room, s .pre .1 .0)) (omega (arith, h, s .pre .1 .0)) (i .1 .1 .0),
+          copied-next (omega (arith, room, s .pre .1 .1)) (omega (arith, h, s .pre .1 .1)) (i .1 .1 .1),
+        ),
       ),
     )
 

@@ -37,7 +37,8 @@ returns-2 c =
     let u = c .before .before .before .before in
     let e = u .before .before in
     let a = e .before .before .args in
-    turned (a .side) (a .count) (a .number) (a .code) _ _ _ _ _ (a .tally) _ (e .before .in-turn .ensures) (e .if1 .left) (c .before .before .before .code-at .ensures) (u .unless .ensures)
+    turned (a .side) (a .count) (a .number) (a .code) _ _ _ _ _ (a .tally) _ (e .before .in-turn .ensures) (e .if1 .left)
+    (c .before .before .before .code-at .ensures) (u .unless .ensures)
     (c .before .before .unless2 .ensures) (c .before .earlier .ensures) (c .earlier2 .ensures)
 
 pub at-move-spec : {M : Type 1} → statement M

@@ -26,7 +26,8 @@ add-t12 : tie.Need-add-t12
 add-t12 c =
     let e = c .before .before .before in
     let s = e .before .before in
-    placed-fits (s .args .side) (s .args .n) (s .args .tally .made) (s .args .tally .next) (s .args .held) _ (s .pre .0) (e .before .in-place .ensures) (e .if1 .left) _ (c .order-of .ensures)
+    let a = s .args in
+    placed-fits (a .side) (a .n) (a .tally .made) (a .tally .next) (a .held) _ (s .pre .0) (e .before .in-place .ensures) (e .if1 .left) _ (c .order-of .ensures)
 
 add-t13 : tie.Need-add-t13
 add-t13 c = search needs
@@ -38,7 +39,8 @@ returns-2 : tie.Need-returns-2
 returns-2 c =
     let e = c .before .before .before .before in
     let a = e .before .before .args in
-    placed (a .side) _ _ _ (a .tally) (a .records) (a .held) _ _ (e .before .in-place .ensures) (e .if1 .left) (c .before .before .before .is-first .ensures) (c .before .before .unless .ensures)
+    placed (a .side) _ _ _ (a .tally) (a .records) (a .held) _ _ (e .before .in-place .ensures) (e .if1 .left)
+    (c .before .before .before .is-first .ensures) (c .before .before .unless .ensures)
     (c .earlier .ensures) (c .before .order-of .ensures)
 
 pub at-record-spec : {M : Type 1} → statement M

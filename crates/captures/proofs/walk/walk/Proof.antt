@@ -65,7 +65,10 @@ expected-requires c κs =
     let f = e .before in
     let l = f .before .before .before in
     let s = l .before .before .before .before in
-    let made = walking-made (l .loop .inv) (f .before .before .loop-test .taken) _ (f .bytes-before .ensures .0) (f .bytes-before .ensures .1) (e .if1 .left) (s .pre .0 .small) (t .before .numbers-in .ensures) (t .tallied .ensures) (c .before .next .given .1) in
+    let end = f .bytes-before .ensures in
+    let made =
+    walking-made (l .loop .inv) (f .before .before .loop-test .taken) _ (end .0) (end .1) (e .if1 .left) (s .pre .0 .small)
+    (t .before .numbers-in .ensures) (t .tallied .ensures) (c .before .next .given .1) in
     (s .pre .0, (s .pre .1 .0, (made .0, (made .1, l .loop .inv .listed))))
 
 add-line : tie.Need-add-line Inv-loop μ-loop
@@ -87,7 +90,9 @@ loop-again c =
     let f = e .before in
     let l = f .before .before .before in
     let s = l .before .before .before .before in
-    walking-next (l .loop .inv) (f .before .before .loop-test .taken) _ (f .bytes-before .ensures .0) (f .bytes-before .ensures .1) (e .if1 .left) (s .pre .0 .small) (t .before .numbers-in .ensures) (t .tallied .ensures) (c .before .before .next .given .1) (c .expected .ensures)
+    let end = f .bytes-before .ensures in
+    walking-next (l .loop .inv) (f .before .before .loop-test .taken) _ (end .0) (end .1) (e .if1 .left) (s .pre .0 .small)
+    (t .before .numbers-in .ensures) (t .tallied .ensures) (c .before .before .next .given .1) (c .expected .ensures)
 
 ended-requires : tie.Need-ended-requires Inv-loop μ-loop
 ended-requires c κs = search needs
