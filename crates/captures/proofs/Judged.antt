@@ -1,33 +1,31 @@
 -- A starting table and a capture judged: what is refused, and what the walk's answer is where nothing is.
 use Prim.Native.Nat.{ℕ, suc, _≤_, _<_}
 use mathlib.Core.Path.{_≡_, refl, sym, ap, _∙_}
-use mathlib.Core.Bool.{Bool, true, false, cond, not, _||_}
-use mathlib.Core.List.{List, [], _∷_, _++_}
+use mathlib.Core.Bool.{Bool, true, false, cond}
+use mathlib.Core.List.{List, [], _∷_}
 use native.Mathlib.Omega.{arith}
-use borrow.Author.Tests.{eq-eqb, ne-eqb, lt-ltb, le-ltb}
-use lib.Dec.{eqb, ltb}
-use lib.ListN.{length, take, drop}
+use borrow.Author.Tests.{ne-eqb, lt-ltb, le-ltb}
+use lib.ListN.{length, take}
 use Rattle.laws.proofs.Searching.{none-found}
 use Rattle.texts.specs.Lines.{TextLine, ended, unended, linesOf}
 use Rattle.texts.specs.Numbers.{numbersIn}
 use Rattle.texts.specs.declared.read.Numbers.{Numbers}
 use Rattle.texts.specs.declared.read.Numbers.the-variants.{Two, Four, Other}
-use Rattle.array.specs.Cells.{isSide, cells}
+use Rattle.array.specs.Cells.{cells}
 use Rattle.answers.specs.declared.Answer.{Answer}
 use Rattle.answers.specs.declared.Case.{Case}
-use Rattle.answers.specs.Answers.{accepted, verdict, sideCase, laneCase, withoutLogs}
+use Rattle.answers.specs.Answers.{accepted, verdict, laneCase, withoutLogs}
 use Rattle.answers.proofs.Verdicts.{NoneApplies, none-refuses, at-once, later, side-built, lane-whole}
 use Rattle.lists.specs.declared.Trip.the-variants.{Concentrate}
-use Rattle.marks.specs.Marks.{marksCase}
 use Rattle.marks.proofs.Checked.{good-marks}
 use Rattle.refusals.specs.declared.Sizes.{Sizes}
-use Rattle.refusals.specs.Cases.{badAim, aimsCase, fullCases}
+use Rattle.refusals.specs.Cases.{badAim, fullCases}
 use Rattle.captures.specs.declared.Held.{Held}
 use Rattle.captures.specs.declared.state.Start.{Start}
 use Rattle.captures.specs.declared.Replayed.{Replayed}
 use Rattle.captures.specs.declared.Replayed.the-variants.{Refused}
-use Rattle.captures.specs.Captures.{heldOf, Captured, CaptureVerdict, isCapture, noCapture, inTurn, withMove, captureFrom, captureVerdict}
-use Rattle.captures.specs.Replays.{sameRecords, compared, captureCase, startCases, replayCases, movesIn, replayBy, replayOf}
+use Rattle.captures.specs.Captures.{Captured, CaptureVerdict, isCapture, noCapture, inTurn, withMove, captureFrom, captureVerdict}
+use Rattle.captures.specs.Replays.{sameRecords, compared, captureCase, startCases, replayCases, replayBy, replayOf}
 use Rattle.captures.specs.Inside.{Loaded, Startable, Started, noTally, resolved, resolvedFrom}
 use Rattle.captures.proofs.Starting.{few-cells}
 

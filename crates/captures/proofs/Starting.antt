@@ -24,7 +24,7 @@ use Rattle.captures.specs.declared.Held.{Held}
 use Rattle.captures.specs.declared.state.Records.{Records}
 use Rattle.captures.specs.declared.state.Start.{Start}
 use Rattle.captures.specs.Replays.{heldIn, heldBelow, stateAfter, recordsAfter}
-use Rattle.captures.specs.Inside.{Listing, Loaded, Startable, Started, recordsFrom}
+use Rattle.captures.specs.Inside.{Listing, Startable, Started, recordsFrom}
 
 -- a board of side 3 has 81 cells
 pub few-cells : (s : ℕ) → s ≤ 3 → cells s ≤ 81

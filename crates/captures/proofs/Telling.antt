@@ -1,15 +1,14 @@
 -- What the small functions of a replay tell of a line, in the terms of the code.
-use Prim.Native.Nat.{ℕ, zero, suc, _+_, _-_, _*_, _≤_, _<_}
-use mathlib.Core.Path.{_≡_, refl, sym, ap, ap₂, _∙_}
+use Prim.Native.Nat.{ℕ, suc, _+_, _-_, _*_, _≤_, _<_}
+use mathlib.Core.Path.{_≡_, sym, ap, ap₂, _∙_}
 use mathlib.Core.Bool.{Bool, true, false, cond, not, _&&_}
-use mathlib.Core.List.{List, [], _∷_}
+use mathlib.Core.List.{List, []}
 use native.Mathlib.Omega.{arith}
-use native.Mathlib.Numerals.{add-one}
 use borrow.Author.Tests.{not-true, not-false, eq-eqb, ne-eqb, le-leb, lt-leb, lt-ltb, le-ltb, eqb-true, leb-true, ltb-true}
 use mir.Syntax.{w64}
 use mir.Val.{Fits}
 use lib.Dec.{eqb, leb, ltb}
-use lib.ListN.{length, getD, take, drop, length-take, drop-of-length-le, List·getD-eq-default}
+use lib.ListN.{length, getD, drop, length-take, drop-of-length-le, List·getD-eq-default}
 use lib.Seq.{drop-cons, getD-take}
 use Rattle.laws.proofs.Bools.{both-left, both-right}
 use Rattle.array.specs.Cells.{isSide, cells}
@@ -29,7 +28,6 @@ use Rattle.captures.specs.declared.state.Start.{Start}
 use Rattle.captures.specs.declared.walk.Tally.{Tally}
 use Rattle.captures.specs.declared.walk.Next.{Next}
 use Rattle.captures.specs.declared.walk.Next.the-variants.{On, Bad}
-use Rattle.captures.specs.declared.Replayed.{Replayed}
 use Rattle.captures.specs.declared.Replayed.the-variants.{Agrees, Differs, Early}
 use Rattle.captures.specs.Captures.{orderOf, inTurn, inPlace}
 use Rattle.captures.specs.Replays.{codeAt, sameHeld}

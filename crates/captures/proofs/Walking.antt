@@ -1,5 +1,5 @@
 -- The lines of a capture, one at a time: what `walk` keeps from turn to turn.
-use Prim.Native.Nat.{ℕ, suc, _+_, _*_, _≤_, _<_}
+use Prim.Native.Nat.{ℕ, suc, _+_, _≤_, _<_}
 use mathlib.Core.Path.{_≡_, refl, sym, ap, subst, _∙_}
 use mathlib.Core.Bool.{Bool, true, false}
 use mathlib.Core.List.{List, [], _∷_}
@@ -22,7 +22,7 @@ use Rattle.captures.specs.declared.walk.Next.{Next}
 use Rattle.captures.specs.declared.walk.Next.the-variants.{On, Bad}
 use Rattle.captures.specs.declared.Replayed.{Replayed}
 use Rattle.captures.specs.declared.Replayed.the-variants.{Refused}
-use Rattle.captures.specs.Captures.{heldOf, orderOf, CaptureVerdict, isCapture, noCapture, inTurn, inPlace, captureFrom}
+use Rattle.captures.specs.Captures.{heldOf, orderOf, noCapture, inTurn, inPlace, captureFrom}
 use Rattle.captures.specs.Inside.{listIn, Roomy, Listing, Small, Started, expectedAt, expectedFrom}
 use Rattle.captures.specs.Inside.{noTally, behindMove, behindRecord, nextOf, endOf, resolved, resolvedFrom}
 use Rattle.captures.proofs.Starting.{few-cells}

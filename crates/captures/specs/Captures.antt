@@ -6,7 +6,6 @@ use lib.ListN.{length}
 use lib.Dec.{eqb, leb, ltb}
 use Rattle.texts.specs.Lines.{TextLine, ended, unended, linesOf}
 use Rattle.texts.specs.Numbers.{numbersIn}
-use Rattle.texts.specs.declared.read.Numbers.{Numbers}
 use Rattle.texts.specs.declared.read.Numbers.the-variants.{Two, Four, Other}
 use Rattle.array.specs.Cells.{cells}
 use Rattle.lists.specs.Lists.{totalMoves}

@@ -17,7 +17,6 @@ use texts::read::numbers_in;
 ghost use mathlib.Core.Path.{_≡_};
 ghost use mathlib.Core.Bool.{true, cond};
 ghost use Prim.Native.Nat.{_+_, _≤_, _<_};
-ghost use lib.Dec.{eqb};
 ghost use lib.ListN.{length, drop};
 ghost use Rattle.laws.specs.Lent.{old};
 ghost use Rattle.array.specs.Cells.{isSide, cells};

@@ -1,5 +1,4 @@
 -- What C gets of a replay: which case it is, and its numbers; a number that a case does not have is 0.
-use Prim.Native.Nat.{ℕ}
 use Rattle.captures.specs.declared.Replayed.{Replayed}
 use Rattle.captures.specs.declared.Replayed.the-variants.{Agrees, Differs, Early, Refused}
 use Rattle.otis.specs.declared.Outcome.{Outcome}

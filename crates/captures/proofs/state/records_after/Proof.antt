@@ -1,5 +1,4 @@
 -- `captures::state::records_after` meets its contract: lanes of its own are as long as the board.
-use borrow.Author.Needs.{needs}
 use Rattle.texts.proofs.Reading.{part-length}
 use Rattle.captures.proofs.Starting.{small-board, front-long, front-room, board-lent, listed-from}
 use Rattle.captures.proofs.state.records_after.Statement.{statement}
