@@ -214,7 +214,7 @@ enum otis_outcome {
     OTIS_AGREES = 0,  /* the capture has every move of the list, and nothing in it is not the rule's */
     OTIS_DIFFERS = 1, /* the board left the rule */
     OTIS_EARLY = 2,   /* nothing in the capture is not the rule's, but moves of the list are missing at its end */
-    OTIS_REFUSED = 3  /* nothing was compared */
+    OTIS_REFUSED = 3  /* the table or the capture is refused, whatever else it holds */
 };
 
 struct otis_replayed {
@@ -248,8 +248,8 @@ struct otis_replayed {
  *     - is a move whose number is not one more than that of the move before it, not 1 for the first one, or past the list;
  *     - is a record before any move, of a cell or a slot that there is not, or of a cell and slot not above those of the
  *       record before it in its move.
- * The whole capture is judged before anything is compared. Any number is a good code, word and aim: one that the rule does
- * not have is a difference.
+ * A refusal anywhere in the capture comes before a difference anywhere in it. Any number is a good code, word and aim: one
+ * that the rule does not have is a difference.
  */
 struct otis_replayed otis_replay(
     size_t side,

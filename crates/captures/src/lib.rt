@@ -28,7 +28,7 @@ pub enum Replayed {
     Refused(usize, usize),
 }
 
-// Replays a capture from a starting table. Nothing is compared before the whole capture is judged: a refusal comes before a difference.
+// Replays a capture from a starting table. It is judged and compared in one walk, and a refusal anywhere comes before a difference anywhere.
 pub fn replay(side: usize, words: &[u32], marks: &[u8], aims: &[u16], capture: &[u8]) -> Replayed
     ensures { λ r. ⌜ r ≡ replayOf side (old words) (old marks) (old aims) (old capture) ⌝ }
 {
