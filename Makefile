@@ -1,5 +1,5 @@
 # The commands of the README. `make` alone shows them.
-.PHONY: help run replay test lib bench
+.PHONY: help run replay test lib bench stack
 
 help:
 	@echo 'make run            the moves of an example job; make run JOB=FILE: of another'
@@ -7,6 +7,7 @@ help:
 	@echo 'make test           the whole test, from nothing: half an hour or more'
 	@echo 'make lib            the archive for C, target/lib/libotis.a, to use with include/otis.h'
 	@echo 'make bench          times of both engines against C functions of the same'
+	@echo 'make stack          how much stack every entry takes at side 8'
 	@echo 'README.md says what they need, and what they do.'
 
 run:
@@ -30,3 +31,7 @@ lib:
 bench:
 	@tests/need rt cc
 	@tests/speed
+
+stack:
+	@tests/need rt cc
+	@tests/stack

@@ -50,19 +50,19 @@ struct task {
 };
 
 #define SHIFTS \
-    {{.plain_shift = timed_plain_shift}, {.plain_shift = gcc_straight_shift}, {.plain_shift = clang_straight_shift}, \
-     {.shift = timed_shift}, {0}}
+    {{.plain_shift = measured_plain_shift}, {.plain_shift = gcc_straight_shift}, {.plain_shift = clang_straight_shift}, \
+     {.shift = measured_shift}, {0}}
 
 static const struct task tasks[] = {
     {.name = "plain broadcast",
-     .callees = {{.plain_broadcast = timed_plain_broadcast}, {.plain_broadcast = gcc_straight_broadcast},
-                 {.plain_broadcast = clang_straight_broadcast}, {.broadcast = timed_broadcast}}},
+     .callees = {{.plain_broadcast = measured_plain_broadcast}, {.plain_broadcast = gcc_straight_broadcast},
+                 {.plain_broadcast = clang_straight_broadcast}, {.broadcast = measured_broadcast}}},
     {.name = "plain data sum",
-     .callees = {{.plain_sum = timed_plain_data_sum}, {.plain_sum = gcc_straight_data_sum},
-                 {.plain_sum = clang_straight_data_sum}, {.sum = timed_data_sum}}},
+     .callees = {{.plain_sum = measured_plain_data_sum}, {.plain_sum = gcc_straight_data_sum},
+                 {.plain_sum = clang_straight_data_sum}, {.sum = measured_data_sum}}},
     {.name = "plain prefix sum",
-     .callees = {{.plain_sum = timed_plain_prefix_sum}, {.plain_sum = gcc_straight_prefix_sum},
-                 {.plain_sum = clang_straight_prefix_sum}, {.sum = timed_prefix_sum}}},
+     .callees = {{.plain_sum = measured_plain_prefix_sum}, {.plain_sum = gcc_straight_prefix_sum},
+                 {.plain_sum = clang_straight_prefix_sum}, {.sum = measured_prefix_sum}}},
     {"plain shift, mesh row, zero fill by 1", SHIFTS, MESH_ROW, ZERO_FILL, 0, 1},
     {"plain shift, mesh column, circular by 1", SHIFTS, MESH_COLUMN, CIRCULAR, 0, 1},
     {"plain shift, group row, zero fill by -1", SHIFTS, GROUP_ROW, ZERO_FILL, 0, -1},

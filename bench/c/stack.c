@@ -4,7 +4,10 @@
  * marked, half of them and all; the most of these counts. The replay at the sides that have captures: with no cell marked and
  * with all the capture of a board that follows the rule, which is the longest that does; with half of them the longest capture
  * there may be, all slots of all cells full. Each call is made once before, so that what the linker does at a first call is
- * not counted. For x86-64, as the archive is. */
+ * not counted. For x86-64, as the archive is.
+ *
+ * Compiled with -DALL_ENTRIES it prints the table of `make stack`: those functions, and the entries that are in no archive but
+ * the one that tests/stack makes for it. */
 #include "otis.h"
 
 #include <stdio.h>
@@ -182,28 +185,11 @@ __attribute__((noinline)) static size_t reach(void (*call)(void))
     return (size_t)(here - lowest);
 }
 
-/* Whether a function keeps to what the header says, at the sides up to the last. */
-static int keeps_to(const char *name, void (*call)(void), size_t said, size_t last)
-{
-    size_t most = 0;
-    for (side = 1; side <= last; side++)
-        for (step = 0; step <= 2; step++) {
-            size_t here = reach(call);
-            most = here > most ? here : most;
-            if (answer.number != OTIS_ACCEPTED) {
-                printf("%s: refused, number %zu, place %zu\n", name, answer.number, answer.place);
-                return 0;
-            }
-        }
-    printf("%s: %zu bytes of stack, and the header says at most %zu\n", name, most, said);
-    return most <= said;
-}
-
-static const struct {
+static const struct function {
     const char *name;
     void (*call)(void);
-    size_t said;
-    size_t last;
+    size_t said; /* by the header, 0 where it says nothing */
+    size_t last; /* the last side that it has */
 } functions[] = {
     {"rank", call_rank, OTIS_RANK_STACK, MAX_SIDE},
     {"concentrate", call_concentrate, OTIS_CONCENTRATE_STACK, MAX_SIDE},
@@ -214,10 +200,49 @@ static const struct {
     {"replay", call_replay, OTIS_REPLAY_STACK, CAPTURED_SIDE},
 };
 
+/* The most that a call takes at the side, of the three ways to mark it; 0 where one is refused. */
+static size_t most_here(const struct function *function)
+{
+    size_t most = 0;
+    for (step = 0; step <= 2; step++) {
+        size_t here = reach(function->call);
+        most = here > most ? here : most;
+        if (answer.number != OTIS_ACCEPTED) {
+            printf("%s: refused, number %zu, place %zu\n", function->name, answer.number, answer.place);
+            return 0;
+        }
+    }
+    return most;
+}
+
+#ifdef ALL_ENTRIES
+#include "stack_entries.h"
+
+int main(void)
+{
+    printf("| entry | bytes of stack at side 8 |\n|---|---|\n");
+    return print_rows(functions, sizeof functions / sizeof *functions) && print_rows(others, sizeof others / sizeof *others) ? 0 : 1;
+}
+#else
+/* Whether a function keeps to what the header says, at every side that it has. */
+static int keeps_to(const struct function *function)
+{
+    size_t most = 0;
+    for (side = 1; side <= function->last; side++) {
+        size_t here = most_here(function);
+        if (here == 0)
+            return 0;
+        most = here > most ? here : most;
+    }
+    printf("%s: %zu bytes of stack, and the header says at most %zu\n", function->name, most, function->said);
+    return most <= function->said;
+}
+
 int main(void)
 {
     int all = 1;
     for (size_t at = 0; at < sizeof functions / sizeof *functions; at++)
-        all &= keeps_to(functions[at].name, functions[at].call, functions[at].said, functions[at].last);
+        all &= keeps_to(&functions[at]);
     return all ? 0 : 1;
 }
+#endif

@@ -25,28 +25,28 @@ plain_sum_by_address module_plain_data_sum, module_plain_prefix_sum;
 struct otis_answer *module_plain_shift(
     struct otis_answer *answer, size_t side, size_t axis, size_t edge, int32_t k, uint32_t *words, size_t words_length);
 
-struct otis_answer timed_broadcast(
+struct otis_answer measured_broadcast(
     size_t side, size_t cell, uint32_t *words, size_t words_length, uint8_t *codes, size_t codes_length)
 {
     struct otis_answer answer;
     return *module_broadcast(&answer, side, cell, words, words_length, codes, codes_length);
 }
 
-struct otis_answer timed_data_sum(
+struct otis_answer measured_data_sum(
     size_t side, uint32_t *words, size_t words_length, uint8_t *codes, size_t codes_length)
 {
     struct otis_answer answer;
     return *module_data_sum(&answer, side, words, words_length, codes, codes_length);
 }
 
-struct otis_answer timed_prefix_sum(
+struct otis_answer measured_prefix_sum(
     size_t side, uint32_t *words, size_t words_length, uint8_t *codes, size_t codes_length)
 {
     struct otis_answer answer;
     return *module_prefix_sum(&answer, side, words, words_length, codes, codes_length);
 }
 
-struct otis_answer timed_shift(
+struct otis_answer measured_shift(
     size_t side, size_t axis, size_t edge, int32_t k, uint32_t *words, size_t words_length, uint8_t *codes,
     size_t codes_length)
 {
@@ -54,25 +54,25 @@ struct otis_answer timed_shift(
     return *module_shift(&answer, side, axis, edge, k, words, words_length, codes, codes_length);
 }
 
-struct otis_answer timed_plain_broadcast(size_t side, size_t cell, uint32_t *words, size_t words_length)
+struct otis_answer measured_plain_broadcast(size_t side, size_t cell, uint32_t *words, size_t words_length)
 {
     struct otis_answer answer;
     return *module_plain_broadcast(&answer, side, cell, words, words_length);
 }
 
-struct otis_answer timed_plain_data_sum(size_t side, uint32_t *words, size_t words_length)
+struct otis_answer measured_plain_data_sum(size_t side, uint32_t *words, size_t words_length)
 {
     struct otis_answer answer;
     return *module_plain_data_sum(&answer, side, words, words_length);
 }
 
-struct otis_answer timed_plain_prefix_sum(size_t side, uint32_t *words, size_t words_length)
+struct otis_answer measured_plain_prefix_sum(size_t side, uint32_t *words, size_t words_length)
 {
     struct otis_answer answer;
     return *module_plain_prefix_sum(&answer, side, words, words_length);
 }
 
-struct otis_answer timed_plain_shift(
+struct otis_answer measured_plain_shift(
     size_t side, size_t axis, size_t edge, int32_t k, uint32_t *words, size_t words_length)
 {
     struct otis_answer answer;

@@ -13,9 +13,9 @@ use Rattle.light.specs.Lane.{swappedLane}
 use Rattle.light.specs.Counts.{markCount, leavingOf}
 use Rattle.light.specs.Lanes.{Slots, slots, each, swappedBy, swapsOn}
 
--- a list of partners, as far as it goes; an empty one is as good
-pub record Listed (s : ℕ) (list : List ℕ) : Type 0 where
-  pub entry : (i : ℕ) → i < length list → getD list i 0 ≡ partner s i
+-- a list of the partners of group g's cells, as far as it goes; an empty one is as good
+pub record Listed (s g : ℕ) (list : List ℕ) : Type 0 where
+  pub entry : (p : ℕ) → p < length list → getD list p 0 ≡ partner s (cell s g p)
 
 -- a lane in which the cells before cell j had their turn: where a cell or its partner is one of them, it holds what its partner held
 pub record Turned (s j : ℕ) (old l : List ℕ) : Type 0 where

@@ -1,7 +1,7 @@
 // A swap: every cell and its partner, at the other end of the light, exchange what they hold, in a lane of words or in all six lanes.
 use array::cells::is_board;
 use laws::counted;
-use links::links;
+use links::links_of;
 ghost use mathlib.Core.Path.{_≡_};
 ghost use mathlib.Core.Bool.{true};
 ghost use Prim.Native.Nat.{_≤_, _<_};
@@ -40,18 +40,18 @@ fn wide(x: u16) -> usize
     x as usize
 }
 
-// The partner of cell p of group g: by the link list, where it has every cell, and else cell g of group p.
+// The partner of cell p of group g: by the group's part of the link list, where it has every cell, and else cell g of group p.
 fn across(side: usize, list: &[u16], g: usize, p: usize) -> usize
     requires { ⌜ isSide side ≡ true ⌝ }
-    requires { ⌜ Listed side (now list) ⌝ }
+    requires { ⌜ Listed side g (now list) ⌝ }
     requires { ⌜ (g < groups side) × (p < groups side) ⌝ }
     ensures { λ r. ⌜ r ≡ partner side (cell side g p) ⌝ }
 {
     let groups = side * side;
-    if list.len() < groups * groups {
+    if list.len() < groups {
         return p * groups + g;
     }
-    wide(list[g * groups + p])
+    wide(list[p])
 }
 
 // Cells j and p of a lane exchange what they hold: a function for each kind of lane, since they differ in their type.
@@ -82,10 +82,10 @@ fn exchange_aims(j: usize, p: usize, aims: &mut [u16])
     aims[p] = aim;
 }
 
-// The turn of group g: its cells trade with their partners, where these come later. They are those past place g.
-fn trade_group(side: usize, list: &[u16], g: usize, lane: &mut [u32])
+// The cells of group g trade with their partners, where these come later. They are those past place g.
+fn trade_places(side: usize, list: &[u16], g: usize, lane: &mut [u32])
     requires { ⌜ isBoard side (length (now lane)) ≡ true ⌝ }
-    requires { ⌜ Listed side (now list) ⌝ }
+    requires { ⌜ Listed side g (now list) ⌝ }
     requires { ⌜ g < groups side ⌝ }
     ensures { λ _. ⌜ GroupTurned side g (now (lane .entry)) (now (lane .exit)) ⌝ }
 {
@@ -98,34 +98,42 @@ fn trade_group(side: usize, list: &[u16], g: usize, lane: &mut [u32])
     }
 }
 
-// Each cell trades with its partner, where that comes later: one group after the other.
-fn trade_words(side: usize, list: &[u16], lane: &mut [u32])
+// The turn of group g; side 8 goes by the board's link list, of which a group needs its own part.
+fn trade_group(side: usize, g: usize, lane: &mut [u32])
     requires { ⌜ isBoard side (length (now lane)) ≡ true ⌝ }
-    requires { ⌜ Listed side (now list) ⌝ }
+    requires { ⌜ g < groups side ⌝ }
+    ensures { λ _. ⌜ GroupTurned side g (now (lane .entry)) (now (lane .exit)) ⌝ }
+{
+    if side == 8 {
+        let list = links_of(g);
+        trade_places(side, &list[..], g, lane);
+        return;
+    }
+    let none = [0u16; 0];
+    trade_places(side, &none[..], g, lane);
+}
+
+// Each cell trades with its partner, where that comes later: one group after the other.
+fn trade_words(side: usize, lane: &mut [u32])
+    requires { ⌜ isBoard side (length (now lane)) ≡ true ⌝ }
     ensures { λ _. ⌜ now (lane .exit) ≡ swappedLane side (now (lane .entry)) ⌝ }
 {
     let groups = side * side;
     let mut g: usize = 0;
     while g < groups {
-        trade_group(side, list, g, lane);
+        trade_group(side, g, lane);
         g += 1;
     }
 }
 
-// A swap; side 8 goes by the board's link list, and what is no lane of a board stays.
+// A swap; what is no lane of a board stays.
 pub fn swap_words(side: usize, lane: &mut [u32])
     ensures { λ _. ⌜ now (lane .exit) ≡ swappedLane side (now (lane .entry)) ⌝ }
 {
     if !is_board(side, lane.len()) {
         return;
     }
-    if side == 8 {
-        let list = links();
-        trade_words(side, &list[..], lane);
-        return;
-    }
-    let none = [0u16; 0];
-    trade_words(side, &none[..], lane);
+    trade_words(side, lane);
 }
 
 fn one(mark: u8) -> usize
@@ -146,8 +154,8 @@ fn trade_slot(j: usize, p: usize, words: &mut [u32], marks: &mut [u8], aims: &mu
     moved
 }
 
-// The turn of group g in one slot; how many records are in another cell then.
-fn trade_group_slots(
+// The same of group g in one slot; how many records are in another cell then.
+fn trade_slot_places(
     side: usize,
     list: &[u16],
     g: usize,
@@ -156,7 +164,7 @@ fn trade_group_slots(
     aims: &mut [u16],
 ) -> usize
     requires { ⌜ onBoard side (lent words marks aims) ≡ true ⌝ }
-    requires { ⌜ Listed side (now list) ⌝ }
+    requires { ⌜ Listed side g (now list) ⌝ }
     requires { ⌜ g < groups side ⌝ }
     ensures { λ r. ⌜ TurnedSlots side g words marks aims r ⌝ }
 {
@@ -171,23 +179,36 @@ fn trade_group_slots(
     moved
 }
 
-// Each cell trades with its partner, where that comes later, in one slot; how many records are in another cell.
-fn trade_slots(
+// The turn of group g in one slot, and the number of those.
+fn trade_group_slots(
     side: usize,
-    list: &[u16],
+    g: usize,
     words: &mut [u32],
     marks: &mut [u8],
     aims: &mut [u16],
 ) -> usize
     requires { ⌜ onBoard side (lent words marks aims) ≡ true ⌝ }
-    requires { ⌜ Listed side (now list) ⌝ }
+    requires { ⌜ g < groups side ⌝ }
+    ensures { λ r. ⌜ TurnedSlots side g words marks aims r ⌝ }
+{
+    if side == 8 {
+        let list = links_of(g);
+        return trade_slot_places(side, &list[..], g, words, marks, aims);
+    }
+    let none = [0u16; 0];
+    trade_slot_places(side, &none[..], g, words, marks, aims)
+}
+
+// Each cell trades with its partner, where that comes later, in one slot; how many records are in another cell.
+fn trade_slots(side: usize, words: &mut [u32], marks: &mut [u8], aims: &mut [u16]) -> usize
+    requires { ⌜ onBoard side (lent words marks aims) ≡ true ⌝ }
     ensures { λ r. ⌜ SwappedOnce side words marks aims r ⌝ }
 {
     let groups = side * side;
     let mut moved: usize = 0;
     let mut g: usize = 0;
     while g < groups {
-        moved += trade_group_slots(side, list, g, words, marks, aims);
+        moved += trade_group_slots(side, g, words, marks, aims);
         g += 1;
     }
     moved
@@ -197,26 +218,23 @@ fn trade_slots(
 fn trade_times(
     side: usize,
     times: usize,
-    list: &[u16],
     words: &mut [u32],
     marks: &mut [u8],
     aims: &mut [u16],
 ) -> usize
-    requires { ⌜ Listed side (now list) ⌝ }
     ensures { λ r. ⌜ TradedTimes side times words marks aims r ⌝ }
 {
     let n = counted(are_slots(side, words.len(), marks.len(), aims.len()), times);
     let mut moved: usize = 0;
     let mut j: usize = 0;
     while j < n {
-        moved = trade_slots(side, list, words, marks, aims);
+        moved = trade_slots(side, words, marks, aims);
         j += 1;
     }
     moved
 }
 
-// So many swaps of all six lanes; how many records each takes to another cell. A slot's lanes that are not a board's stay. The link list is
-// taken once, where there is a swap to make by it.
+// So many swaps of all six lanes; how many records each takes to another cell. A slot's lanes that are not a board's stay.
 pub fn swap_lanes(
     side: usize,
     times: usize,
@@ -229,14 +247,6 @@ pub fn swap_lanes(
 ) -> usize
     ensures { λ r. ⌜ SwappedLanes side times words marks aims «spare_words» «spare_marks» «spare_aims» r ⌝ }
 {
-    if counted(side == 8, times) > 0 {
-        let links = links();
-        let list = &links[..];
-        let front = trade_times(side, times, list, words, marks, aims);
-        return front + trade_times(side, times, list, spare_words, spare_marks, spare_aims);
-    }
-    let none = [0u16; 0];
-    let list = &none[..];
-    let front = trade_times(side, times, list, words, marks, aims);
-    front + trade_times(side, times, list, spare_words, spare_marks, spare_aims)
+    let front = trade_times(side, times, words, marks, aims);
+    front + trade_times(side, times, spare_words, spare_marks, spare_aims)
 }

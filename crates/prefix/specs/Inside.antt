@@ -21,18 +21,17 @@ pub record RowsAndColumns (s : ℕ) (r c r′ c′ : List ℕ) : Type 0 where
   pub rows : (R : State ℕ) → Lane s r R → Lane s r′ (summed s Right R)
   pub columns : (R C : State ℕ) → Lane s r R → Lane s c C → Lane s c′ (summed s Down (summed s Right R))
 
--- step 3 and the sums of step 4: a is what came by light, y its row sums, z their column sums; what a, y and z held does not matter
-pub record GroupSums (s : ℕ) (c a y z a′ y′ z′ : List ℕ) : Type 0 where
-  pub came : (C A : State ℕ) → Lane s c C → Lane s a A → Lane s a′ (swappedState C)
-  pub rows : (C A Y : State ℕ) → Lane s c C → Lane s a A → Lane s y Y → Lane s y′ (summed s Right (swappedState C))
-  pub columns : (C A Y Z : State ℕ) → Lane s c C → Lane s a A → Lane s y Y → Lane s z Z → Lane s z′ (summed s Down (summed s Right (swappedState C)))
+-- step 3 and the sums of step 4: y are the row sums of what came by light, z their column sums; what y and z held does not matter
+pub record GroupSums (s : ℕ) (c y z y′ z′ : List ℕ) : Type 0 where
+  pub rows : (C Y : State ℕ) → Lane s c C → Lane s y Y → Lane s y′ (summed s Right (swappedState C))
+  pub columns : (C Y Z : State ℕ) → Lane s c C → Lane s y Y → Lane s z Z → Lane s z′ (summed s Down (summed s Right (swappedState C)))
 
--- the rest of step 4, and step 5: the modified sums, sent back by light
+-- the rest of step 4, and step 5: the modified sums, sent back by light; A is what came
 abbrev pub modified : ℕ → State ℕ → State ℕ → State ℕ → State ℕ
 modified s A Y Z = swappedState (λ c d a b. minus (plus (copied s Left (λ c d a b. minus (Z c d a b) (Y c d a b)) c d a b) (Y c d a b)) (A c d a b))
 
-pub record Modified (s : ℕ) (a y z z′ : List ℕ) : Type 0 where
-  pub so : (A Y Z : State ℕ) → Lane s a A → Lane s y Y → Lane s z Z → Lane s z′ (modified s A Y Z)
+pub record Modified (s : ℕ) (c y z z′ : List ℕ) : Type 0 where
+  pub so : (C Y Z : State ℕ) → Lane s c C → Lane s y Y → Lane s z Z → Lane s z′ (modified s (swappedState C) Y Z)
 
 -- steps 6 to 9: up the last column, the column sum on and the row sum off, along the rows, and the row sum on
 abbrev pub finished : ℕ → State ℕ → State ℕ → State ℕ → State ℕ
@@ -43,5 +42,5 @@ pub record Finished (s : ℕ) (r c z r′ : List ℕ) : Type 0 where
   pub so : (R C M : State ℕ) → Lane s r R → Lane s c C → Lane s z M → Lane s r′ (finished s R C M)
 
 -- all nine steps: r becomes the prefix sums, whatever the other lanes held
-pub record PrefixLanes (s : ℕ) (r c a y z r′ : List ℕ) : Type 0 where
-  pub so : (R C A Y Z : State ℕ) → Lane s r R → Lane s c C → Lane s a A → Lane s y Y → Lane s z Z → Lane s r′ (prefixed s R)
+pub record PrefixLanes (s : ℕ) (r c y z r′ : List ℕ) : Type 0 where
+  pub so : (R C Y Z : State ℕ) → Lane s r R → Lane s c C → Lane s y Y → Lane s z Z → Lane s r′ (prefixed s R)

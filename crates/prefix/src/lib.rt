@@ -29,29 +29,30 @@ fn rows_and_columns(r: &mut [u32], c: &mut [u32], side: usize)
 }
 
 // Step 3 and the sums of step 4: what comes by light, its sums along the rows, and theirs down the columns.
-fn group_sums(c: &[u32], a: &mut [u32], y: &mut [u32], z: &mut [u32], side: usize)
+fn group_sums(c: &[u32], y: &mut [u32], z: &mut [u32], side: usize)
     requires { ⌜ 1 ≤ side ⌝ }
-    ensures { λ _. ⌜ GroupSums side (now (c .entry)) (now (a .entry)) (now (y .entry)) (now (z .entry)) (now (a .exit)) (now (y .exit)) (now (z .exit)) ⌝ }
+    ensures { λ _. ⌜ GroupSums side (now (c .entry)) (now (y .entry)) (now (z .entry)) (now (y .exit)) (now (z .exit)) ⌝ }
 {
     let last = side - 1;
-    combine(Combining::Take, a, c);
-    swap_words(side, a);
-    combine(Combining::Take, y, &a[..]);
+    combine(Combining::Take, y, c);
+    swap_words(side, y);
     run(side, Way::Right, Joining::Add, 0, last, y);
     combine(Combining::Take, z, &y[..]);
     run(side, Way::Down, Joining::Add, 0, last, z);
 }
 
-// The rest of step 4, and step 5: the rows above go back along the rows, each cell makes its modified sum, and that goes back by light.
-fn modify(a: &[u32], y: &[u32], z: &mut [u32], side: usize)
+// The rest of step 4, and step 5: the rows above go back along the rows, each cell makes its modified sum, and that goes back by light. What came
+// to a cell is what its partner still has in c: it is taken off there, behind the light, so that no lane has to keep it.
+fn modify(c: &[u32], y: &[u32], z: &mut [u32], side: usize)
     requires { ⌜ 1 ≤ side ⌝ }
-    ensures { λ _. ⌜ Modified side (now (a .entry)) (now (y .entry)) (now (z .entry)) (now (z .exit)) ⌝ }
+    ensures { λ _. ⌜ Modified side (now (c .entry)) (now (y .entry)) (now (z .entry)) (now (z .exit)) ⌝ }
 {
     let last = side - 1;
     combine(Combining::Minus, z, y);
     run(side, Way::Left, Joining::Copy, last, last, z);
-    balance(z, y, a);
+    combine(Combining::Plus, z, y);
     swap_words(side, z);
+    combine(Combining::Minus, z, c);
 }
 
 // Steps 6 to 9: up the last column; the column sum is added and the row sum taken off again; along the rows; the row sum is added.
@@ -66,21 +67,14 @@ fn finish(r: &mut [u32], c: &[u32], z: &mut [u32], side: usize)
     combine(Combining::Plus, r, &z[..]);
 }
 
-// The nine steps on five lanes: r holds the words, and at the end their prefix sums.
-fn prefix_lanes(
-    r: &mut [u32],
-    c: &mut [u32],
-    a: &mut [u32],
-    y: &mut [u32],
-    z: &mut [u32],
-    side: usize,
-)
+// The nine steps on four lanes: r holds the words, and at the end their prefix sums.
+fn prefix_lanes(r: &mut [u32], c: &mut [u32], y: &mut [u32], z: &mut [u32], side: usize)
     requires { ⌜ 1 ≤ side ⌝ }
-    ensures { λ _. ⌜ PrefixLanes side (now (r .entry)) (now (c .entry)) (now (a .entry)) (now (y .entry)) (now (z .entry)) (now (r .exit)) ⌝ }
+    ensures { λ _. ⌜ PrefixLanes side (now (r .entry)) (now (c .entry)) (now (y .entry)) (now (z .entry)) (now (r .exit)) ⌝ }
 {
     rows_and_columns(r, c, side);
-    group_sums(&c[..], a, y, z, side);
-    modify(&a[..], &y[..], z, side);
+    group_sums(&c[..], y, z, side);
+    modify(&c[..], &y[..], z, side);
     finish(r, &c[..], z, side);
 }
 
@@ -91,18 +85,10 @@ fn sum_least(words: &mut [u32], side: usize)
     ensures { λ _. ⌜ Moves side (prefixed side) (now (words .entry)) (now (words .exit)) ⌝ }
 {
     let mut c = [0u32; 16];
-    let mut a = [0u32; 16];
     let mut y = [0u32; 16];
     let mut z = [0u32; 16];
     let n = words.len();
-    prefix_lanes(
-        words,
-        &mut c[..n],
-        &mut a[..n],
-        &mut y[..n],
-        &mut z[..n],
-        side,
-    );
+    prefix_lanes(words, &mut c[..n], &mut y[..n], &mut z[..n], side);
 }
 
 // On a board of side 4 at most.
@@ -112,18 +98,10 @@ fn sum_few(words: &mut [u32], side: usize)
     ensures { λ _. ⌜ Moves side (prefixed side) (now (words .entry)) (now (words .exit)) ⌝ }
 {
     let mut c = [0u32; 256];
-    let mut a = [0u32; 256];
     let mut y = [0u32; 256];
     let mut z = [0u32; 256];
     let n = words.len();
-    prefix_lanes(
-        words,
-        &mut c[..n],
-        &mut a[..n],
-        &mut y[..n],
-        &mut z[..n],
-        side,
-    );
+    prefix_lanes(words, &mut c[..n], &mut y[..n], &mut z[..n], side);
 }
 
 fn sum_many(words: &mut [u32], side: usize)
@@ -131,18 +109,10 @@ fn sum_many(words: &mut [u32], side: usize)
     ensures { λ _. ⌜ Moves side (prefixed side) (now (words .entry)) (now (words .exit)) ⌝ }
 {
     let mut c = [0u32; 4096];
-    let mut a = [0u32; 4096];
     let mut y = [0u32; 4096];
     let mut z = [0u32; 4096];
     let n = words.len();
-    prefix_lanes(
-        words,
-        &mut c[..n],
-        &mut a[..n],
-        &mut y[..n],
-        &mut z[..n],
-        side,
-    );
+    prefix_lanes(words, &mut c[..n], &mut y[..n], &mut z[..n], side);
 }
 
 fn sum_up(words: &mut [u32], side: usize)

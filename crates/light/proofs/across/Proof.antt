@@ -9,9 +9,6 @@ use Rattle.light.proofs.across.Tie as tie
 mul-groups : tie.Need-mul-groups
 mul-groups c = omega (arith, ends _ _ _ (c .before .pre .0) (c .before .pre .1 .1))
 
-mul-if1 : tie.Need-mul-if1
-mul-if1 c = omega (arith, ends _ _ _ (c .before .pre .0) (c .before .pre .1 .1))
-
 mul-result : tie.Need-mul-result
 mul-result c = omega (arith, ends _ _ _ (c .before .before .pre .0) (c .before .before .pre .1 .1))
 
@@ -23,12 +20,6 @@ returns c = sym (partner-at (c .before .before .args .side) (c .before .before .
 
 mul-wide : tie.Need-mul-wide
 mul-wide c = omega (arith, ends _ _ _ (c .before .before .pre .0) (c .before .before .pre .1 .1))
-
-add-wide : tie.Need-add-wide
-add-wide c = omega (arith, ends _ _ _ (c .before .before .pre .0) (c .before .before .pre .1 .1))
-
-mul-wide-2 : tie.Need-mul-wide-2
-mul-wide-2 c = omega (arith, ends _ _ _ (c .before .before .pre .0) (c .before .before .pre .1 .1))
 
 shared-slice-read-wide : tie.Need-shared-slice-read-wide
 shared-slice-read-wide c = omega (arith, ends _ _ _ (c .before .before .before .pre .0) (c .before .before .before .pre .1 .1))
@@ -46,13 +37,10 @@ across-spec =
     tie.close
     (tie.spec
     mul-groups
-    mul-if1
     mul-result
     add-result
     returns
     mul-wide
-    add-wide
-    mul-wide-2
     shared-slice-read-wide
     wide-requires
     returns-2)

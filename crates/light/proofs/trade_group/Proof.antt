@@ -1,87 +1,49 @@
--- `light::trade_group` meets its contract: turn after turn each cell past place g trades with its partner.
-use Prim.Native.Nat.{_-_}
-use native.Mathlib.Omega.{arith}
-use lib.ListN.{length}
-use Rattle.light.proofs.Groups.{trades-long, trades-ends, trades-other, trades-later, ends, Trades, trades-start, trades-turn, trades-end}
-use Rattle.light.proofs.Turning.{board-side}
+-- `light::trade_group` meets its contract: with its part of the link list at side 8, and else with none.
+use Rattle.light.proofs.Partners.{listed-links}
+use borrow.Author.Needs.{needs}
 use Rattle.light.proofs.trade_group.Statement.{statement}
 use Rattle.light.proofs.trade_group.Tie as tie
 
-abbrev Inv-loop : tie.InvT-loop
-Inv-loop side list g lane₀ groups p₀ lane p = Trades side g p lane₀ lane
+links-of-requires : tie.Need-links-of-requires
+links-of-requires c κs = search needs
 
-abbrev μ-loop : tie.MeasureT-loop
-μ-loop side list g lane₀ groups p₀ lane p = groups - p
+slice-aggregate-trade-places : tie.Need-slice-aggregate-trade-places
+slice-aggregate-trade-places c = search needs
 
-mul-groups : tie.Need-mul-groups Inv-loop μ-loop
-mul-groups c =
-    let s = c .before .before in
-    omega (arith, ends (s .args .side) (s .args .g) (s .args .g) (board-side (s .args .side) (length (s .args .lane .now)) (s .pre .0)) (s .pre .1 .1, s .pre .1 .1))
+trade-places-requires : tie.Need-trade-places-requires
+trade-places-requires c κs =
+    let i = c .before .before .before in
+    let s = i .before .before in
+    (s .pre .0, (listed-links (s .args .side) (s .args .g) _ (i .if1 .taken) (s .pre .1) (c .before .before .links-of .ensures), s .pre .1))
 
-add-p : tie.Need-add-p Inv-loop μ-loop
-add-p c =
-    let s = c .before .before in
-    omega (arith, ends (s .args .side) (s .args .g) (s .args .g) (board-side (s .args .side) (length (s .args .lane .now)) (s .pre .0)) (s .pre .1 .1, s .pre .1 .1))
+same-length : tie.Need-same-length
+same-length c = search needs
 
-loop-holds : tie.Need-loop-holds Inv-loop μ-loop
-loop-holds c =
-    let s = c .before .before in
-    trades-start (s .pre .0) (s .pre .1 .1)
+returns : tie.Need-returns
+returns c = search needs
 
-across-requires : tie.Need-across-requires Inv-loop μ-loop
-across-requires c κs =
-    let s = c .before .before .before .before in
-    (board-side (s .args .side) (length (s .args .lane .now)) (s .pre .0), (s .pre .1 .0, (s .pre .1 .1, c .loop-test .taken)))
+slice-aggregate-trade-places-2 : tie.Need-slice-aggregate-trade-places-2
+slice-aggregate-trade-places-2 c = search needs
 
-mul-exchange-words : tie.Need-mul-exchange-words Inv-loop μ-loop
-mul-exchange-words c = omega (arith, trades-ends (c .before .before .loop .inv) (c .before .loop-test .taken))
+trade-places-requires-2 : tie.Need-trade-places-requires-2
+trade-places-requires-2 c κs = search needs
 
-add-exchange-words : tie.Need-add-exchange-words Inv-loop μ-loop
-add-exchange-words c = omega (arith, trades-ends (c .before .before .loop .inv) (c .before .loop-test .taken))
+same-length-2 : tie.Need-same-length-2
+same-length-2 c = search needs
 
-exchange-words-requires : tie.Need-exchange-words-requires Inv-loop μ-loop
-exchange-words-requires c κs =
-    let a = c .before in
-    let t = a .before in
-    let l = t .before in
-    (trades-later (l .loop .inv) (t .loop-test .taken) (a .across .ensures), omega (arith, l .loop .inv .long, trades-other (l .loop .inv) _ (t .loop-test .taken) (a .across .ensures)))
-
-add-p-2 : tie.Need-add-p-2 Inv-loop μ-loop
-add-p-2 c =
-    let t = c .before .before .before .before .before in
-    let l = t .before in
-    omega (arith, t .loop-test .taken, trades-ends (l .loop .inv) (t .loop-test .taken))
-
-loop-less : tie.Need-loop-less Inv-loop μ-loop
-loop-less c = omega (arith, c .before .before .before .before .before .loop-test .taken)
-
-loop-again : tie.Need-loop-again Inv-loop μ-loop
-loop-again c =
-    let t = c .before .before .before .before .before in
-    let l = t .before in
-    rw (c .before .before .exchange-words .ensures) (trades-turn (l .loop .inv) (t .loop-test .taken) (c .before .before .before .before .across .ensures))
-
-same-length : tie.Need-same-length Inv-loop μ-loop
-same-length c = trades-long (c .before .loop .inv)
-
-returns : tie.Need-returns Inv-loop μ-loop
-returns c = trades-end (c .before .loop .inv) (c .loop-test .left)
+returns-2 : tie.Need-returns-2
+returns-2 c = search needs
 
 pub trade-group-spec : {M : Type 1} → statement M
 trade-group-spec =
     tie.close
     (tie.spec
-    Inv-loop
-    μ-loop
-    mul-groups
-    add-p
-    loop-holds
-    across-requires
-    mul-exchange-words
-    add-exchange-words
-    exchange-words-requires
-    add-p-2
-    loop-less
-    loop-again
+    links-of-requires
+    slice-aggregate-trade-places
+    trade-places-requires
     same-length
-    returns)
+    returns
+    slice-aggregate-trade-places-2
+    trade-places-requires-2
+    same-length-2
+    returns-2)

@@ -1,113 +1,65 @@
-use Prim.Native.Nat.{_-_}
-use native.Mathlib.Omega.{arith}
-use Rattle.light.specs.Lanes.{slots}
-use Rattle.light.proofs.Groups.{trades-long, trades-ends, trades-other, trades-later, ends}
-use Rattle.light.proofs.Walking.{Sweeping, sweeping-start, sweeping-step, sweeping-end, slots-side}
+-- `light::trade_group_slots` meets its contract: with its part of the link list at side 8, and else with none.
+use Rattle.light.proofs.Partners.{listed-links}
+use borrow.Author.Needs.{needs}
 use Rattle.light.proofs.trade_group_slots.Statement.{statement}
 use Rattle.light.proofs.trade_group_slots.Tie as tie
 
-abbrev Inv-loop : tie.InvT-loop
-Inv-loop side list g words₀ marks₀ aims₀ groups moved₀ p₀ words marks aims moved p = Sweeping side g p (slots words₀ marks₀ aims₀) (slots words marks aims) moved
+links-of-requires : tie.Need-links-of-requires
+links-of-requires c κs = search needs
 
-abbrev μ-loop : tie.MeasureT-loop
-μ-loop side list g words₀ marks₀ aims₀ groups moved₀ p₀ words marks aims moved p = groups - p
+slice-aggregate-trade-slot-places : tie.Need-slice-aggregate-trade-slot-places
+slice-aggregate-trade-slot-places c = search needs
 
-mul-groups : tie.Need-mul-groups Inv-loop μ-loop
-mul-groups c =
-    let s = c .before .before .before .before in
-    omega (arith, ends _ _ _ (slots-side (s .args .side) (slots (s .args .words .now) (s .args .marks .now) (s .args .aims .now)) (s .pre .0)) (s .pre .1 .1, s .pre .1 .1))
+trade-slot-places-requires : tie.Need-trade-slot-places-requires
+trade-slot-places-requires c κs =
+    let i = c .before .before .before .before .before in
+    let s = i .before .before .before .before in
+    (s .pre .0, (listed-links (s .args .side) (s .args .g) _ (i .if1 .taken) (s .pre .1) (c .before .before .before .before .links-of .ensures), s .pre .1))
 
-add-p : tie.Need-add-p Inv-loop μ-loop
-add-p c =
-    let s = c .before .before .before .before in
-    omega (arith, ends _ _ _ (slots-side (s .args .side) (slots (s .args .words .now) (s .args .marks .now) (s .args .aims .now)) (s .pre .0)) (s .pre .1 .1, s .pre .1 .1))
+same-length : tie.Need-same-length
+same-length c = search needs
 
-loop-holds : tie.Need-loop-holds Inv-loop μ-loop
-loop-holds c =
-    let s = c .before .before .before .before in
-    sweeping-start _ (s .pre .0) (s .pre .1 .1)
+same-length-2 : tie.Need-same-length-2
+same-length-2 c = search needs
 
-across-requires : tie.Need-across-requires Inv-loop μ-loop
-across-requires c κs =
-    let b = c .before .before .before .before .before in
-    let s = b .before in
-    (slots-side (s .args .side) (slots (s .args .words .now) (s .args .marks .now) (s .args .aims .now)) (s .pre .0), (s .pre .1 .0, (s .pre .1 .1, c .loop-test .taken)))
+same-length-3 : tie.Need-same-length-3
+same-length-3 c = search needs
 
-mul-trade-slot : tie.Need-mul-trade-slot Inv-loop μ-loop
-mul-trade-slot c = omega (arith, trades-ends (c .before .before .loop .inv .words) (c .before .loop-test .taken))
+returns : tie.Need-returns
+returns c = search needs
 
-add-trade-slot : tie.Need-add-trade-slot Inv-loop μ-loop
-add-trade-slot c = omega (arith, trades-ends (c .before .before .loop .inv .words) (c .before .loop-test .taken))
+slice-aggregate-trade-slot-places-2 : tie.Need-slice-aggregate-trade-slot-places-2
+slice-aggregate-trade-slot-places-2 c = search needs
 
-trade-slot-requires : tie.Need-trade-slot-requires Inv-loop μ-loop
-trade-slot-requires c κs =
-    let l = c .before .before .before .before .before in
-    let i = l .loop .inv in
-    let h = c .before .before .before .before .loop-test .taken in
-    let e = c .before .before .before .across .ensures in
-    let q = trades-other (i .words) _ h e in
-    (trades-later (i .words) h e, (omega (arith, i .words .long, q), (omega (arith, i .marks .long, q), omega (arith, i .aims .long, q))))
+trade-slot-places-requires-2 : tie.Need-trade-slot-places-requires-2
+trade-slot-places-requires-2 c κs = search needs
 
-add-moved : tie.Need-add-moved Inv-loop μ-loop
-add-moved c =
-    let ts = c .before .before .before .before .before .before in
-    let t = ts .before .before .before .before .before in
-    let l = t .before in
-    let i = l .loop .inv in
-    omega (arith, i .few, ts .trade-slot .ensures .few, trades-ends (i .words) (t .loop-test .taken), t .loop-test .taken)
+same-length-4 : tie.Need-same-length-4
+same-length-4 c = search needs
 
-add-p-2 : tie.Need-add-p-2 Inv-loop μ-loop
-add-p-2 c =
-    let t = c .before .before .before .before .before .before .before .before .before .before .before in
-    let l = t .before in
-    omega (arith, t .loop-test .taken, trades-ends (l .loop .inv .words) (t .loop-test .taken))
+same-length-5 : tie.Need-same-length-5
+same-length-5 c = search needs
 
-loop-less : tie.Need-loop-less Inv-loop μ-loop
-loop-less c =
-    let t = c .before .before .before .before .before .before .before .before .before .before .before in
-    omega (arith, t .loop-test .taken)
+same-length-6 : tie.Need-same-length-6
+same-length-6 c = search needs
 
-loop-again : tie.Need-loop-again Inv-loop μ-loop
-loop-again c =
-    let ts = c .before .before .before .before .before .before in
-    let a = ts .before .before .before .before in
-    let t = a .before in
-    let l = t .before in
-    sweeping-step (l .loop .inv) (t .loop-test .taken) (a .across .ensures) (ts .trade-slot .ensures)
-
-same-length : tie.Need-same-length Inv-loop μ-loop
-same-length c = trades-long (c .before .loop .inv .words)
-
-same-length-2 : tie.Need-same-length-2 Inv-loop μ-loop
-same-length-2 c = trades-long (c .before .loop .inv .marks)
-
-same-length-3 : tie.Need-same-length-3 Inv-loop μ-loop
-same-length-3 c = trades-long (c .before .loop .inv .aims)
-
-returns : tie.Need-returns Inv-loop μ-loop
-returns c =
-    let b = c .before .before .before .before .before in
-    let s = b .before in
-    sweeping-end (c .loop-test .left) (slots-side (s .args .side) (slots (s .args .words .now) (s .args .marks .now) (s .args .aims .now)) (s .pre .0)) (c .before .loop .inv)
+returns-2 : tie.Need-returns-2
+returns-2 c = search needs
 
 pub trade-group-slots-spec : {M : Type 1} → statement M
 trade-group-slots-spec =
     tie.close
     (tie.spec
-    Inv-loop
-    μ-loop
-    mul-groups
-    add-p
-    loop-holds
-    across-requires
-    mul-trade-slot
-    add-trade-slot
-    trade-slot-requires
-    add-moved
-    add-p-2
-    loop-less
-    loop-again
+    links-of-requires
+    slice-aggregate-trade-slot-places
+    trade-slot-places-requires
     same-length
     same-length-2
     same-length-3
-    returns)
+    returns
+    slice-aggregate-trade-slot-places-2
+    trade-slot-places-requires-2
+    same-length-4
+    same-length-5
+    same-length-6
+    returns-2)

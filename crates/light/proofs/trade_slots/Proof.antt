@@ -8,45 +8,44 @@ use Rattle.light.proofs.trade_slots.Statement.{statement}
 use Rattle.light.proofs.trade_slots.Tie as tie
 
 abbrev Inv-loop : tie.InvT-loop
-Inv-loop side list words₀ marks₀ aims₀ groups moved₀ g₀ words marks aims moved g = Walking side g (slots words₀ marks₀ aims₀) (slots words marks aims) moved
+Inv-loop side words₀ marks₀ aims₀ groups moved₀ g₀ words marks aims moved g = Walking side g (slots words₀ marks₀ aims₀) (slots words marks aims) moved
 
 abbrev μ-loop : tie.MeasureT-loop
-μ-loop side list words₀ marks₀ aims₀ groups moved₀ g₀ words marks aims moved g = groups - g
+μ-loop side words₀ marks₀ aims₀ groups moved₀ g₀ words marks aims moved g = groups - g
 
 mul-groups : tie.Need-mul-groups Inv-loop μ-loop
 mul-groups c =
-    let s = c .before .before .before .before in
+    let s = c .before .before .before in
     let a = s .args in
-    omega (arith, side-known (a .side) (slots-side (a .side) (slots (a .words .now) (a .marks .now) (a .aims .now)) (s .pre .0)))
+    omega (arith, side-known (a .side) (slots-side (a .side) (slots (a .words .now) (a .marks .now) (a .aims .now)) (s .pre)))
 
 loop-holds : tie.Need-loop-holds Inv-loop μ-loop
 loop-holds c =
-    let s = c .before .before .before .before in
-    walking-start (s .args .side) _ (s .pre .0)
+    let s = c .before .before .before in
+    walking-start (s .args .side) _ (s .pre)
 
 trade-group-slots-requires : tie.Need-trade-group-slots-requires Inv-loop μ-loop
 trade-group-slots-requires c κs =
-    let s = c .before .before .before .before .before .before .before .before .before in
-    (walking-board (c .before .before .before .before .loop .inv), (s .pre .1, c .before .before .before .loop-test .taken))
+    (walking-board (c .before .before .before .before .loop .inv), c .before .before .before .loop-test .taken)
 
 add-moved : tie.Need-add-moved Inv-loop μ-loop
 add-moved c =
     let tgs = c .before .before .before .before .before .before in
     let t = tgs .before .before .before .before in
     let l = t .before in
-    let b = l .before .before .before .before in
+    let b = l .before .before .before in
     let s = b .before in
     let a = s .args in
-    let k = side-known (a .side) (slots-side (a .side) (slots (a .words .now) (a .marks .now) (a .aims .now)) (s .pre .0)) in
+    let k = side-known (a .side) (slots-side (a .side) (slots (a .words .now) (a .marks .now) (a .aims .now)) (s .pre)) in
     omega (arith, l .loop .inv .few, tgs .trade-group-slots .ensures .few, t .loop-test .taken, k .groups-few)
 
 add-g : tie.Need-add-g Inv-loop μ-loop
 add-g c =
     let t = c .before .before .before .before .before .before .before .before .before .before in
-    let b = t .before .before .before .before .before in
+    let b = t .before .before .before .before in
     let s = b .before in
     let a = s .args in
-    let k = side-known (a .side) (slots-side (a .side) (slots (a .words .now) (a .marks .now) (a .aims .now)) (s .pre .0)) in
+    let k = side-known (a .side) (slots-side (a .side) (slots (a .words .now) (a .marks .now) (a .aims .now)) (s .pre)) in
     omega (arith, t .loop-test .taken, k .groups-few)
 
 loop-less : tie.Need-loop-less Inv-loop μ-loop

@@ -10,12 +10,12 @@ use Rattle.light.proofs.trade_times.Statement.{statement}
 use Rattle.light.proofs.trade_times.Tie as tie
 
 abbrev Inv-loop : tie.InvT-loop
-Inv-loop side times list words₀ marks₀ aims₀ n moved₀ j₀ words marks aims moved j =
+Inv-loop side times words₀ marks₀ aims₀ n moved₀ j₀ words marks aims moved j =
     (0 < n → onBoard side (slots words₀ marks₀ aims₀) ≡ true) × (j ≤ n) × (length words ≡ length words₀) × (length marks ≡ length marks₀) × (length aims ≡ length aims₀)
     × Times side j (slots words₀ marks₀ aims₀) (slots words marks aims) moved
 
 abbrev μ-loop : tie.MeasureT-loop
-μ-loop side times list words₀ marks₀ aims₀ n moved₀ j₀ words marks aims moved j = n - j
+μ-loop side times words₀ marks₀ aims₀ n moved₀ j₀ words marks aims moved j = n - j
 
 are-slots-requires : tie.Need-are-slots-requires Inv-loop μ-loop
 are-slots-requires c κs = tt
@@ -29,10 +29,9 @@ loop-holds c =
 
 trade-slots-requires : tie.Need-trade-slots-requires Inv-loop μ-loop
 trade-slots-requires c κs =
-    let s = c .before .before .before .before .before .before .before .before .before .before .before in
     let i = c .before .before .before .before .loop .inv in
     let h = c .before .before .before .loop-test .taken in
-    (times-board (i .0 (omega (arith, h))) (i .5), s .pre)
+    times-board (i .0 (omega (arith, h))) (i .5)
 
 add-j : tie.Need-add-j Inv-loop μ-loop
 add-j c =
@@ -66,7 +65,7 @@ same-length-3 c = c .before .loop .inv .4
 
 returns : tie.Need-returns Inv-loop μ-loop
 returns c =
-    let s = c .before .before .before .before .before .before .before .before in
+    let s = c .before .before .before .before .before .before .before in
     let a = s .args in
     let i = c .before .loop .inv in
     times-counted (a .side) (a .times) (slots (a .words .now) (a .marks .now) (a .aims .now)) (c .before .before .before .are-slots .ensures) (c .before .before .counted .ensures)

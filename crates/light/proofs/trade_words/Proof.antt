@@ -8,25 +8,25 @@ use Rattle.light.proofs.trade_words.Statement.{statement}
 use Rattle.light.proofs.trade_words.Tie as tie
 
 abbrev Inv-loop : tie.InvT-loop
-Inv-loop side list lane₀ groups g₀ lane g = Rounds side g lane₀ lane
+Inv-loop side lane₀ groups g₀ lane g = Rounds side g lane₀ lane
 
 abbrev μ-loop : tie.MeasureT-loop
-μ-loop side list lane₀ groups g₀ lane g = groups - g
+μ-loop side lane₀ groups g₀ lane g = groups - g
 
 mul-groups : tie.Need-mul-groups Inv-loop μ-loop
-mul-groups c = omega (arith, board-known (c .before .before .args .side) (length (c .before .before .args .lane .now)) (c .before .before .pre .0) .groups-few)
+mul-groups c = omega (arith, board-known (c .before .args .side) (length (c .before .args .lane .now)) (c .before .pre) .groups-few)
 
 loop-holds : tie.Need-loop-holds Inv-loop μ-loop
-loop-holds c = rounds-start (c .before .before .args .side) (c .before .before .args .lane .now) (c .before .before .pre .0)
+loop-holds c = rounds-start (c .before .args .side) (c .before .args .lane .now) (c .before .pre)
 
 trade-group-requires : tie.Need-trade-group-requires Inv-loop μ-loop
-trade-group-requires c κs = (rounds-board (c .before .before .loop .inv), (c .before .before .before .before .before .pre .1, c .before .loop-test .taken))
+trade-group-requires c κs = (rounds-board (c .before .before .loop .inv), c .before .loop-test .taken)
 
 add-g : tie.Need-add-g Inv-loop μ-loop
 add-g c =
     let l = c .before .before .before .before in
-    let s = l .before .before .before .before in
-    omega (arith, l .loop-test .taken, board-known (s .args .side) (length (s .args .lane .now)) (s .pre .0) .groups-few)
+    let s = l .before .before .before in
+    omega (arith, l .loop-test .taken, board-known (s .args .side) (length (s .args .lane .now)) (s .pre) .groups-few)
 
 loop-less : tie.Need-loop-less Inv-loop μ-loop
 loop-less c = omega (arith, c .before .before .before .before .loop-test .taken)

@@ -19,9 +19,6 @@ combine-requires-2 c κs = search needs
 run-requires : tie.Need-run-requires
 run-requires c κs = search needs
 
-combine-requires-3 : tie.Need-combine-requires-3
-combine-requires-3 c κs = search needs
-
 run-requires-2 : tie.Need-run-requires-2
 run-requires-2 c κs = search needs
 
@@ -31,18 +28,13 @@ same-length c = search needs
 same-length-2 : tie.Need-same-length-2
 same-length-2 c = search needs
 
-same-length-3 : tie.Need-same-length-3
-same-length-3 c = search needs
-
 returns : tie.Need-returns
 returns c =
     let c₂ = c .before .before .before .before .before .before in
     let r = c₂ .before .before .before .before .before in
-    let c₃ = r .before .before .before .before in
-    let s = c₃ .before .before .before .before .before in
-    let c₄ = s .before .before .before .before in
-    group-sums _ (c₄ .combine .ensures) (s .swap-words .ensures) (c₃ .combine2 .ensures) (r .run .ensures) (c₂ .combine3 .ensures)
-    (c .before .before .run2 .ensures)
+    let s = r .before .before .before .before in
+    let c₃ = s .before .before .before .before in
+    group-sums _ (c₃ .combine .ensures) (s .swap-words .ensures) (r .run .ensures) (c₂ .combine2 .ensures) (c .before .before .run2 .ensures)
 
 pub group-sums-spec : {M : Type 1} → statement M
 group-sums-spec =
@@ -51,11 +43,9 @@ group-sums-spec =
     sub-last
     combine-requires
     swap-words-requires
-    combine-requires-2
     run-requires
-    combine-requires-3
+    combine-requires-2
     run-requires-2
     same-length
     same-length-2
-    same-length-3
     returns)

@@ -28,15 +28,12 @@ same-length-3 c = search needs
 same-length-4 : tie.Need-same-length-4
 same-length-4 c = search needs
 
-same-length-5 : tie.Need-same-length-5
-same-length-5 c = search needs
-
 returns : tie.Need-returns
 returns c =
     let f = c .before .before .before .before in
     let m = f .before .before .before .before .before .before in
-    let g = m .before .before .before .before .before .before .before .before .before .before in
-    let r = g .before .before .before .before .before .before .before .before .before in
+    let g = m .before .before .before .before .before .before .before .before in
+    let r = g .before .before .before .before .before .before .before .before in
     prefix-lanes-moves _ (r .rows-and-columns .ensures) (g .group-sums .ensures) (m .modify .ensures) (f .finish .ensures)
 
 pub prefix-lanes-spec : {M : Type 1} → statement M
@@ -51,5 +48,4 @@ prefix-lanes-spec =
     same-length-2
     same-length-3
     same-length-4
-    same-length-5
     returns)

@@ -12,23 +12,17 @@ array-borrow-prefix-c c = c .before .before .pre .1
 slice-aggregate-prefix-lanes : tie.Need-slice-aggregate-prefix-lanes
 slice-aggregate-prefix-lanes c = sym (length-take-le _ _ (c .before .before .before .pre .1))
 
-array-borrow-prefix-a : tie.Need-array-borrow-prefix-a
-array-borrow-prefix-a c = c .before .before .before .pre .1
+array-borrow-prefix-y : tie.Need-array-borrow-prefix-y
+array-borrow-prefix-y c = c .before .before .before .pre .1
 
 slice-aggregate-prefix-lanes-2 : tie.Need-slice-aggregate-prefix-lanes-2
 slice-aggregate-prefix-lanes-2 c = sym (length-take-le _ _ (c .before .before .before .before .pre .1))
 
-array-borrow-prefix-y : tie.Need-array-borrow-prefix-y
-array-borrow-prefix-y c = c .before .before .before .before .pre .1
+array-borrow-prefix-z : tie.Need-array-borrow-prefix-z
+array-borrow-prefix-z c = c .before .before .before .before .pre .1
 
 slice-aggregate-prefix-lanes-3 : tie.Need-slice-aggregate-prefix-lanes-3
 slice-aggregate-prefix-lanes-3 c = sym (length-take-le _ _ (c .before .before .before .before .before .pre .1))
-
-array-borrow-prefix-z : tie.Need-array-borrow-prefix-z
-array-borrow-prefix-z c = c .before .before .before .before .before .pre .1
-
-slice-aggregate-prefix-lanes-4 : tie.Need-slice-aggregate-prefix-lanes-4
-slice-aggregate-prefix-lanes-4 c = sym (length-take-le _ _ (c .before .before .before .before .before .before .pre .1))
 
 prefix-lanes-requires : tie.Need-prefix-lanes-requires
 prefix-lanes-requires c κs = search needs
@@ -38,10 +32,10 @@ same-length c = search needs
 
 returns : tie.Need-returns
 returns c =
-    let p = c .before .before .before .before .before .before in
-    let s = p .before .before .before .before .before .before .before in
-    prefix-moves _ (length-take-le _ _ (s .pre .1)) (length-take-le _ _ (s .pre .1)) (length-take-le _ _ (s .pre .1)) (length-take-le _ _ (s .pre .1))
-    (p .prefix-lanes .ensures)
+    let p = c .before .before .before .before .before in
+    let s = p .before .before .before .before .before .before in
+    let e = length-take-le _ _ (s .pre .1) in
+    prefix-moves _ e e e (p .prefix-lanes .ensures)
 
 pub sum-least-spec : {M : Type 1} → statement M
 sum-least-spec =
@@ -49,12 +43,10 @@ sum-least-spec =
     (tie.spec
     array-borrow-prefix-c
     slice-aggregate-prefix-lanes
-    array-borrow-prefix-a
-    slice-aggregate-prefix-lanes-2
     array-borrow-prefix-y
-    slice-aggregate-prefix-lanes-3
+    slice-aggregate-prefix-lanes-2
     array-borrow-prefix-z
-    slice-aggregate-prefix-lanes-4
+    slice-aggregate-prefix-lanes-3
     prefix-lanes-requires
     same-length
     returns)

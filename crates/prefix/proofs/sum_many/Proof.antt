@@ -13,23 +13,17 @@ array-borrow-prefix-c c = sizes (c .before .before .pre) .few
 slice-aggregate-prefix-lanes : tie.Need-slice-aggregate-prefix-lanes
 slice-aggregate-prefix-lanes c = sym (length-take-le _ _ (sizes (c .before .before .before .pre) .few))
 
-array-borrow-prefix-a : tie.Need-array-borrow-prefix-a
-array-borrow-prefix-a c = sizes (c .before .before .before .pre) .few
+array-borrow-prefix-y : tie.Need-array-borrow-prefix-y
+array-borrow-prefix-y c = sizes (c .before .before .before .pre) .few
 
 slice-aggregate-prefix-lanes-2 : tie.Need-slice-aggregate-prefix-lanes-2
 slice-aggregate-prefix-lanes-2 c = sym (length-take-le _ _ (sizes (c .before .before .before .before .pre) .few))
 
-array-borrow-prefix-y : tie.Need-array-borrow-prefix-y
-array-borrow-prefix-y c = sizes (c .before .before .before .before .pre) .few
+array-borrow-prefix-z : tie.Need-array-borrow-prefix-z
+array-borrow-prefix-z c = sizes (c .before .before .before .before .pre) .few
 
 slice-aggregate-prefix-lanes-3 : tie.Need-slice-aggregate-prefix-lanes-3
 slice-aggregate-prefix-lanes-3 c = sym (length-take-le _ _ (sizes (c .before .before .before .before .before .pre) .few))
-
-array-borrow-prefix-z : tie.Need-array-borrow-prefix-z
-array-borrow-prefix-z c = sizes (c .before .before .before .before .before .pre) .few
-
-slice-aggregate-prefix-lanes-4 : tie.Need-slice-aggregate-prefix-lanes-4
-slice-aggregate-prefix-lanes-4 c = sym (length-take-le _ _ (sizes (c .before .before .before .before .before .before .pre) .few))
 
 prefix-lanes-requires : tie.Need-prefix-lanes-requires
 prefix-lanes-requires c κs = search needs
@@ -39,10 +33,10 @@ same-length c = search needs
 
 returns : tie.Need-returns
 returns c =
-    let p = c .before .before .before .before .before .before in
-    let s = p .before .before .before .before .before .before .before in
-    prefix-moves _ (length-take-le _ _ (sizes (s .pre) .few)) (length-take-le _ _ (sizes (s .pre) .few)) (length-take-le _ _ (sizes (s .pre) .few))
-    (length-take-le _ _ (sizes (s .pre) .few)) (p .prefix-lanes .ensures)
+    let p = c .before .before .before .before .before in
+    let s = p .before .before .before .before .before .before in
+    let e = length-take-le _ _ (sizes (s .pre) .few) in
+    prefix-moves _ e e e (p .prefix-lanes .ensures)
 
 pub sum-many-spec : {M : Type 1} → statement M
 sum-many-spec =
@@ -50,12 +44,10 @@ sum-many-spec =
     (tie.spec
     array-borrow-prefix-c
     slice-aggregate-prefix-lanes
-    array-borrow-prefix-a
-    slice-aggregate-prefix-lanes-2
     array-borrow-prefix-y
-    slice-aggregate-prefix-lanes-3
+    slice-aggregate-prefix-lanes-2
     array-borrow-prefix-z
-    slice-aggregate-prefix-lanes-4
+    slice-aggregate-prefix-lanes-3
     prefix-lanes-requires
     same-length
     returns)
