@@ -58,9 +58,9 @@ shift-moves-lane s f e x = record {
   so = λ σ h. x .so σ _ h (lane-load (record { least = h .board .least; most = h .board .most; whole = e ∙ h .board .whole }));
 }
 
-pub shift-groups : (s : ℕ) (f : State ℕ → State ℕ) {l l₁ l₂ l₃ : List ℕ} → l₁ ≡ swappedLane s l → Moves s f l₁ l₂ → l₃ ≡ swappedLane s l₂
-    → Moves s (λ σ. swappedState (f (swappedState σ))) l l₃
-shift-groups s f e x e₃ = record { so = λ σ h. swapped-lane s e₃ (x .so _ (swapped-lane s e h)) }
+pub shift-groups : (s : ℕ) (f : State ℕ → State ℕ) {l l₁ l₂ l₃ b : List ℕ} → l₁ ≡ swappedLane s l → ShiftLanes s f l₁ b l₂ → l₃ ≡ swappedLane s l₂
+    → ShiftLanes s (λ σ. swappedState (f (swappedState σ))) l b l₃
+shift-groups s f e x e₃ = record { so = λ σ τ h k. swapped-lane s e₃ (x .so _ τ (swapped-lane s e h) k) }
 
 -- the test of the distance, as the machine reads it
 pub within-is : (s : ℕ) (t : Bool) (d : Distance) (z k : ℤ) → z ≡ k → d ≡ distanceOf z → t ≡ within s d → within s (distanceOf k) ≡ t

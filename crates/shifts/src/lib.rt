@@ -122,38 +122,57 @@ fn shift_lanes(
     choose(words, &back[..], side, way, edge, forth, around);
 }
 
-fn shift_mesh(words: &mut [u32], side: usize, way: Way, edge: Edge, forth: usize, around: usize)
-    requires { ⌜ FitsBoard side (length (now words)) ⌝ }
-    requires { ⌜ (forth ≤ side) × (around ≤ side) ⌝ }
-    ensures { λ _. ⌜ Moves side (meshShift side way edge forth around) (now (words .entry)) (now (words .exit)) ⌝ }
-{
-    let mut back = [0u32; 4096];
-    let n = words.len();
-    shift_lanes(words, &mut back[..n], side, way, edge, forth, around);
-}
-
 // A shift of groups: a swap, the same inside the groups, a swap.
-fn shift_groups(words: &mut [u32], side: usize, way: Way, edge: Edge, forth: usize, around: usize)
-    requires { ⌜ FitsBoard side (length (now words)) ⌝ }
+fn shift_groups(
+    words: &mut [u32],
+    back: &mut [u32],
+    side: usize,
+    way: Way,
+    edge: Edge,
+    forth: usize,
+    around: usize,
+)
+    requires { ⌜ 1 ≤ side ⌝ }
+    requires { ⌜ length (now back) ≡ length (now words) ⌝ }
     requires { ⌜ (forth ≤ side) × (around ≤ side) ⌝ }
-    ensures { λ _. ⌜ Moves side (λ σ. swappedState (meshShift side way edge forth around (swappedState σ))) (now (words .entry)) (now (words .exit)) ⌝ }
+    ensures { λ _. ⌜ ShiftLanes side (λ σ. swappedState (meshShift side way edge forth around (swappedState σ))) (now (words .entry)) (now (back .entry)) (now (words .exit)) ⌝ }
 {
     swap_words(side, words);
-    shift_mesh(words, side, way, edge, forth, around);
+    shift_lanes(words, back, side, way, edge, forth, around);
     swap_words(side, words);
 }
 
+fn shift_on(
+    words: &mut [u32],
+    back: &mut [u32],
+    side: usize,
+    axis: Axis,
+    edge: Edge,
+    forth: usize,
+    around: usize,
+)
+    requires { ⌜ 1 ≤ side ⌝ }
+    requires { ⌜ length (now back) ≡ length (now words) ⌝ }
+    requires { ⌜ (forth ≤ side) × (around ≤ side) ⌝ }
+    ensures { λ _. ⌜ ShiftLanes side (shiftOn side axis edge forth around) (now (words .entry)) (now (back .entry)) (now (words .exit)) ⌝ }
+{
+    match axis {
+        Axis::MeshRow => shift_lanes(words, back, side, Way::Right, edge, forth, around),
+        Axis::MeshColumn => shift_lanes(words, back, side, Way::Down, edge, forth, around),
+        Axis::GroupRow => shift_groups(words, back, side, Way::Right, edge, forth, around),
+        Axis::GroupColumn => shift_groups(words, back, side, Way::Down, edge, forth, around),
+    }
+}
+
+// The second lane is made here, above the four axes: made below, it would lie on the stack twice.
 fn shift_all(words: &mut [u32], side: usize, axis: Axis, edge: Edge, forth: usize, around: usize)
     requires { ⌜ FitsBoard side (length (now words)) ⌝ }
     requires { ⌜ (forth ≤ side) × (around ≤ side) ⌝ }
     ensures { λ _. ⌜ Moves side (shiftOn side axis edge forth around) (now (words .entry)) (now (words .exit)) ⌝ }
 {
-    match axis {
-        Axis::MeshRow => shift_mesh(words, side, Way::Right, edge, forth, around),
-        Axis::MeshColumn => shift_mesh(words, side, Way::Down, edge, forth, around),
-        Axis::GroupRow => shift_groups(words, side, Way::Right, edge, forth, around),
-        Axis::GroupColumn => shift_groups(words, side, Way::Down, edge, forth, around),
-    }
+    let mut back = [0u32; 4096];
+    let n = words.len();
+    shift_on(words, &mut back[..n], side, axis, edge, forth, around);
 }
 
 // Every word moves by k along its row or column, of the mesh or of the groups.

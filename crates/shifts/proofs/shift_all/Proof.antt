@@ -1,73 +1,38 @@
--- `shifts::shift_all` meets its contract: by cases on the axis.
+-- `shifts::shift_all` meets its contract: the scratch lane is as long as the words.
+use mathlib.Core.Path.{sym}
+use lib.Seq.{length-take-le}
+use Rattle.lanes.proofs.Held.{sizes}
+use Rattle.shifts.proofs.Composing.{shift-moves-lane}
 use borrow.Author.Needs.{needs}
 use Rattle.shifts.proofs.shift_all.Statement.{statement}
 use Rattle.shifts.proofs.shift_all.Tie as tie
 
-enum-told : tie.Need-enum-told
-enum-told c = search needs
+array-borrow-prefix-back : tie.Need-array-borrow-prefix-back
+array-borrow-prefix-back c = sizes (c .before .before .pre .0) .few
 
-shift-mesh-requires : tie.Need-shift-mesh-requires
-shift-mesh-requires c κs = search needs
+slice-aggregate-shift-on : tie.Need-slice-aggregate-shift-on
+slice-aggregate-shift-on c = sym (length-take-le _ _ (sizes (c .before .before .before .pre .0) .few))
 
-enum-told-2 : tie.Need-enum-told-2
-enum-told-2 c = search needs
-
-shift-mesh-requires-2 : tie.Need-shift-mesh-requires-2
-shift-mesh-requires-2 c κs = search needs
-
-enum-told-3 : tie.Need-enum-told-3
-enum-told-3 c = search needs
-
-shift-groups-requires : tie.Need-shift-groups-requires
-shift-groups-requires c κs = search needs
-
-enum-told-4 : tie.Need-enum-told-4
-enum-told-4 c = search needs
-
-shift-groups-requires-2 : tie.Need-shift-groups-requires-2
-shift-groups-requires-2 c κs = search needs
+shift-on-requires : tie.Need-shift-on-requires
+shift-on-requires c κs =
+    let s = c .before .before .before in
+    (s .pre .0 .least, (length-take-le _ _ (sizes (s .pre .0) .few), s .pre .1))
 
 same-length : tie.Need-same-length
 same-length c = search needs
 
 returns : tie.Need-returns
-returns c = rw (c .before .before .before .before .enum-told .given .1) (c .before .before .shift-mesh .ensures)
-
-same-length-2 : tie.Need-same-length-2
-same-length-2 c = search needs
-
-returns-2 : tie.Need-returns-2
-returns-2 c = rw (c .before .before .before .before .enum-told2 .given .1) (c .before .before .shift-mesh2 .ensures)
-
-same-length-3 : tie.Need-same-length-3
-same-length-3 c = search needs
-
-returns-3 : tie.Need-returns-3
-returns-3 c = rw (c .before .before .before .before .enum-told3 .given .1) (c .before .before .shift-groups .ensures)
-
-same-length-4 : tie.Need-same-length-4
-same-length-4 c = search needs
-
-returns-4 : tie.Need-returns-4
-returns-4 c = rw (c .before .before .before .before .enum-told4 .given .1) (c .before .before .shift-groups2 .ensures)
+returns c =
+    let s = c .before .before .before in
+    let s₂ = s .before .before .before .before in
+    shift-moves-lane _ _ (length-take-le _ _ (sizes (s₂ .pre .0) .few)) (s .shift-on .ensures)
 
 pub shift-all-spec : {M : Type 1} → statement M
 shift-all-spec =
     tie.close
     (tie.spec
-    enum-told
-    shift-mesh-requires
-    enum-told-2
-    shift-mesh-requires-2
-    enum-told-3
-    shift-groups-requires
-    enum-told-4
-    shift-groups-requires-2
+    array-borrow-prefix-back
+    slice-aggregate-shift-on
+    shift-on-requires
     same-length
-    returns
-    same-length-2
-    returns-2
-    same-length-3
-    returns-3
-    same-length-4
-    returns-4)
+    returns)
