@@ -84,13 +84,14 @@ uint32_t otis_version(void);
 #define OTIS_MAX_MOVES 51
 
 /* How many bytes of stack a call takes at most, at any side: for the size of a thread's stack. Measured by painting the stack
- * (bench/c/stack.c): rank takes some 91,000, concentrate and distribute some 10,000, the replay some 27,000. The plain
- * number is for each of the plain functions, which keep no table. The tests hold the archive to these numbers. */
-#define OTIS_RANK_STACK 98304
-#define OTIS_CONCENTRATE_STACK 16384
-#define OTIS_DISTRIBUTE_STACK 16384
+ * (bench/c/stack.c): rank takes some 66,000, concentrate and distribute some 2,000, the replay some 19,000. The plain
+ * number is for each of the plain functions, which keep no table. The tests hold the archive to these numbers; they are those of
+ * the archive that this header came with, and an older one took more. */
+#define OTIS_RANK_STACK 73728
+#define OTIS_CONCENTRATE_STACK 4096
+#define OTIS_DISTRIBUTE_STACK 4096
 #define OTIS_PLAIN_STACK 1024
-#define OTIS_REPLAY_STACK 32768
+#define OTIS_REPLAY_STACK 24576
 
 /* The entries of codes. */
 enum otis_code {

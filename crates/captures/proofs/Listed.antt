@@ -1,12 +1,15 @@
 -- Records listed slot after slot and cell after cell.
 use Prim.Native.Nat.{ℕ, _+_, _*_, _≤_, _<_}
 use mathlib.Core.Path.{_≡_, sym, ap, _∙_}
+use mathlib.Core.Bool.{true, _&&_}
 use mathlib.Core.List.{List, [], _++_, append-nil, append-assoc}
 use native.Mathlib.Omega.{arith}
 use native.Mathlib.Numerals.{add-one}
 use borrow.Author.Tests.{eq-eqb, ne-eqb}
+use lib.Dec.{eqb}
 use lib.ListN.{length, set, length-set}
 use lib.Seq.{take-suc-set, length-take-le}
+use Rattle.laws.proofs.Bools.{both-left, both-right}
 use Rattle.slots.specs.declared.Rec.{Rec}
 use Rattle.slots.specs.declared.Cell.{Cell}
 use Rattle.captures.specs.declared.Held.{Held}
@@ -53,6 +56,17 @@ gathered-next T {i} z m = record {
   room = record { long = m .long; few = omega (arith, z .room .few, m .few) };
   list = rw add-one (m .list ∙ ap (λ (l : List Held). l ++ (heldIn i 0 (T i .front) ++ heldIn i 1 (T i .spare))) (z .list));
 }
+
+-- a cell without records adds none
+pub gathered-over : (T : ℕ → Cell) {i : ℕ} {r : Records} → Gathered T i r → (eqb (T i .front .mark) 0 && eqb (T i .spare .mark) 0) ≡ true → Gathered T (i + 1) r
+unfolding heldBelow
+gathered-over T {i} z none =
+    let f = both-left (eqb (T i .front .mark) 0) _ none in
+    let g = both-right (eqb (T i .front .mark) 0) _ none in
+    record {
+      room = record { long = z .room .long; few = omega (arith, z .room .few) };
+      list = rw (add-one, f, g) (z .list ∙ sym (append-nil (heldBelow T i)));
+    }
 
 -- there is room for two more, where the board is no larger than that of side 3
 pub gathered-room : (T : ℕ → Cell) {n i : ℕ} {r : Records} → n ≤ 81 → i < n → Gathered T i r → Roomy 160 r

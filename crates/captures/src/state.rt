@@ -3,8 +3,10 @@ use crate::Held;
 use records::concentrate_cut;
 use slots::Rec;
 ghost use mathlib.Core.Path.{_≡_};
+ghost use mathlib.Core.Bool.{_&&_};
 ghost use mathlib.Core.List.{[], _++_};
 ghost use Prim.Native.Nat.{_+_, _≤_, _<_};
+ghost use lib.Dec.{eqb};
 ghost use lib.ListN.{length};
 ghost use Rattle.laws.specs.Lent.{old};
 ghost use Rattle.array.specs.Cells.{cells};
@@ -72,7 +74,13 @@ fn with_cell(records: Records, cell: usize, front: Rec, spare: Rec) -> Records
     with_slot(with_slot(records, cell, 0, front), cell, 1, spare)
 }
 
-// The records of n cells.
+fn holds_none(front: Rec, spare: Rec) -> bool
+    ensures { λ r. ⌜ r ≡ (eqb (front .mark) 0 && eqb (spare .mark) 0) ⌝ }
+{
+    front.mark == 0 && spare.mark == 0
+}
+
+// The records of n cells. A cell that holds none is passed over: to hand the list on for it costs a copy of the whole.
 fn records_in(
     n: usize,
     words: &[u32],
@@ -99,7 +107,9 @@ fn records_in(
             mark: spare_marks[i],
             aim: spare_aims[i],
         };
-        records = with_cell(records, i, front, spare);
+        if !holds_none(front, spare) {
+            records = with_cell(records, i, front, spare);
+        }
         i += 1;
     }
     records

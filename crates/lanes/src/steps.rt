@@ -175,6 +175,21 @@ fn line_at(side: usize, way: Way, p: usize) -> LinePlaces
     }
 }
 
+// So many places take the words of as many others. Those that lie side by side, a row, have a call of their own: it is compiled by itself, to
+// several words at a time.
+fn take_places(part: &mut [u32], to: usize, from: usize, apart: usize, count: usize)
+    requires { ⌜ Places to apart count (length (now part)) ⌝ }
+    requires { ⌜ Places from apart count (length (now part)) ⌝ }
+    requires { ⌜ Apart to from apart count ⌝ }
+    ensures { λ _. ⌜ PlacesLaid to apart count (joinFrom Joining.Fill to from apart (now (part .entry))) (now (part .entry)) (now (part .exit)) ⌝ }
+{
+    if apart == 1 {
+        join_places(part, Joining::Fill, to, from, 1, count);
+    } else {
+        join_places(part, Joining::Fill, to, from, apart, count);
+    }
+}
+
 // The places at position p take the word that comes to them, or 0.
 fn fill_line(part: &mut [u32], side: usize, way: Way, p: usize)
     requires { ⌜ Group side (length (now part)) ⌝ }
@@ -185,7 +200,7 @@ fn fill_line(part: &mut [u32], side: usize, way: Way, p: usize)
     let apart = line_gap(side, way);
     let from = behind(side, way, p);
     match from {
-        Source::At(q) => join_places(part, Joining::Fill, p * next, q * next, apart, side),
+        Source::At(q) => take_places(part, p * next, q * next, apart, side),
         Source::Nothing => clear_places(part, p * next, apart, side),
     }
 }

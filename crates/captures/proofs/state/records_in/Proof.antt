@@ -1,9 +1,11 @@
 -- `captures::state::records_in` meets its contract: cell after cell.
 use Prim.Native.Nat.{_-_, _≤_}
+use mathlib.Core.Logic.{⊎-elim}
 use native.Mathlib.Omega.{arith}
 use borrow.Author.Needs.{needs}
+use Rattle.laws.proofs.Bools.{passed}
 use Rattle.slots.specs.Cells.{cellAt}
-use Rattle.captures.proofs.Listed.{Gathered, gathered-start, gathered-next, gathered-room, gathered-end}
+use Rattle.captures.proofs.Listed.{Gathered, gathered-start, gathered-next, gathered-over, gathered-room, gathered-end}
 use Rattle.captures.proofs.state.records_in.Statement.{statement}
 use Rattle.captures.proofs.state.records_in.Tie as tie
 
@@ -50,6 +52,9 @@ mul-t18-2 c = search needs
 shared-slice-read-t20-2 : tie.Need-shared-slice-read-t20-2 Inv-loop μ-loop
 shared-slice-read-t20-2 c = search needs
 
+holds-none-requires : tie.Need-holds-none-requires Inv-loop μ-loop
+holds-none-requires c κs = search needs
+
 with-cell-requires : tie.Need-with-cell-requires Inv-loop μ-loop
 with-cell-requires c κs = search gathered-room
 
@@ -61,8 +66,13 @@ loop-less c = search needs
 
 loop-again : tie.Need-loop-again Inv-loop μ-loop
 loop-again c =
-    let l = c .before .before .before .before .before .before .before .before in
-    (search needs, gathered-next _ (l .loop .inv .1) (c .with-cell .ensures))
+    let h = c .before in
+    let l = h .before .before .before .before .before .before .before .before in
+    let z = l .loop .inv .1 in (
+      search needs,
+      ⊎-elim (λ w. rw (w .2) (gathered-next _ z (w .1 .ensures)))
+          (λ o. rw (o .1) (gathered-over _ z (passed (h .holds-none .ensures) (o .0 .left)))) (c .if1 .came),
+    )
 
 returns : tie.Need-returns Inv-loop μ-loop
 returns c =
@@ -87,6 +97,7 @@ records-in-spec =
     shared-slice-read-t17-2
     mul-t18-2
     shared-slice-read-t20-2
+    holds-none-requires
     with-cell-requires
     add-i
     loop-less

@@ -20,14 +20,14 @@ behind-requires c κs = search needs
 enum-known-from : tie.Need-enum-known-from
 enum-known-from c = search needs
 
-mul-join-places : tie.Need-mul-join-places
-mul-join-places c =
+mul-take-places : tie.Need-mul-take-places
+mul-take-places c =
     let a = c .before .before .before .before .before .before in
     let s = a .before .before in
     omega (arith, place-gap-few (s .pre .0) (s .args .way) (s .args .p) _ (s .pre .1) (a .place-gap .ensures))
 
-mul-join-places-2 : tie.Need-mul-join-places-2
-mul-join-places-2 c =
+mul-take-places-2 : tie.Need-mul-take-places-2
+mul-take-places-2 c =
     let f = c .before .before in
     let b = f .before .before in
     let a = b .before .before in
@@ -35,8 +35,8 @@ mul-join-places-2 c =
     omega
     (arith, place-gap-few (s .pre .0) (s .args .way) (f .from .given .0 .0) _ (behind-is _ (s .args .way) (s .args .p) (f .from .given .0 .0) (s .pre .1) (sym (b .behind .ensures) ∙ f .from .given .1) .inside) (a .place-gap .ensures))
 
-join-places-requires : tie.Need-join-places-requires
-join-places-requires c κs =
+take-places-requires : tie.Need-take-places-requires
+take-places-requires c κs =
     let f = c .before .before in
     let b = f .before .before in
     let a = b .before in
@@ -72,7 +72,7 @@ returns c =
     let a₂ = a .before in
     let s = a₂ .before .before in
     after-turn-received (s .args .side) (s .args .way) Fill (s .args .p) (f .from .given .0 .0) _ _ (s .args .part .now) _ (s .pre .0) (s .pre .1)
-    (sym (b .behind .ensures) ∙ f .from .given .1) (a₂ .place-gap .ensures) (a .line-gap .ensures) (c .before .before .join-places .ensures)
+    (sym (b .behind .ensures) ∙ f .from .given .1) (a₂ .place-gap .ensures) (a .line-gap .ensures) (c .before .before .take-places .ensures)
 
 same-length-2 : tie.Need-same-length-2
 same-length-2 c = search needs
@@ -95,9 +95,9 @@ fill-line-spec =
     line-gap-requires
     behind-requires
     enum-known-from
-    mul-join-places
-    mul-join-places-2
-    join-places-requires
+    mul-take-places
+    mul-take-places-2
+    take-places-requires
     enum-told
     mul-clear-places
     clear-places-requires
