@@ -142,7 +142,7 @@ static int print_rows(const struct function rows[], size_t count)
         size_t most = most_here(&rows[at]);
         if (most == 0)
             return 0;
-        printf("| %s | %zu |\n", rows[at].name, most);
+        printf("| %s%s | %zu |\n", rows[at].name, side == MAX_SIDE ? "" : ", at side 3", most);
     }
     return 1;
 }
