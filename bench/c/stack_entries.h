@@ -29,10 +29,11 @@ static void call_prefix_sum(void)
     answer = measured_prefix_sum(side, words, OTIS_CELLS(side), all_codes, sizeof all_codes);
 }
 
-/* Along every axis, with either edge. */
+/* Along every axis, with either edge, up to one that is refused. */
 static void call_shift(void)
 {
-    for (size_t which = 0; which < 8; which++)
+    answer.number = OTIS_ACCEPTED;
+    for (size_t which = 0; which < 8 && answer.number == OTIS_ACCEPTED; which++)
         answer = measured_shift(side, which / 2, which % 2, 1, words, OTIS_CELLS(side), all_codes, sizeof all_codes);
 }
 
@@ -53,7 +54,8 @@ static void call_plain_prefix_sum(void)
 
 static void call_plain_shift(void)
 {
-    for (size_t which = 0; which < 8; which++)
+    answer.number = OTIS_ACCEPTED;
+    for (size_t which = 0; which < 8 && answer.number == OTIS_ACCEPTED; which++)
         answer = measured_plain_shift(side, which / 2, which % 2, 1, words, OTIS_CELLS(side));
 }
 
