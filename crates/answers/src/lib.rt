@@ -1,4 +1,6 @@
 // How an entry answers: the first of its cases that applies, in the order of their numbers, or that it was accepted.
+#![tactic(auto)]
+
 ghost use Rattle.std.specs.Prelude.{◌≡◌, [], ◌∷◌, length as length_of, nat_lt};
 ghost use Rattle.runs.specs.Runs.{moves};
 ghost use Rattle.answers.specs.Answers.{refused as refused_of, accepted as accepted_of, accepted_by, case_of, refusing as refusing_of, verdict, side_case, lane_case, log_case, cell_case};
@@ -8,7 +10,7 @@ use runs::{Found, Run, electronic_in, step_at, swaps_in};
 
 // The refusal number, or 0; the place that it names; the moves that were made.
 #[repr(C)]
-#[derive(Drop)]
+#[derive(Clone, Copy)]
 pub struct Answer {
     pub number: usize,
     pub place: usize,
@@ -17,7 +19,7 @@ pub struct Answer {
 }
 
 // A case in which an entry refuses.
-#[derive(Drop)]
+#[derive(Clone, Copy)]
 pub struct Case {
     pub applies: bool,
     pub number: usize,

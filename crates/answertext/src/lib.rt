@@ -1,5 +1,7 @@
 // The text of an answer, written into a lent buffer as far as that goes.
 // Each function puts its text from index `at` on, and answers where it ends.
+#![tactic(auto)]
+
 ghost use Rattle.std.specs.Prelude.{◌≡◌, ◌≤◌, min, length};
 ghost use Rattle.printing.specs.Printed.{rows};
 ghost use Rattle.answertext.specs.Log.{line_of, added_to, totals_of};
@@ -12,7 +14,7 @@ use printing::{put, put_field};
 use runs::{electronic_in, swaps_in};
 
 // What the lines of a log add up to.
-#[derive(Drop)]
+#[derive(Clone, Copy)]
 pub struct Totals {
     pub electronic: usize,
     pub optical: usize,

@@ -1,3 +1,5 @@
 // The board: its cells and links, and the moves that it can make.
+#![tactic(auto)]
+
 pub mod cells;
 pub mod moves;

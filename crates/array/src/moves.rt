@@ -2,7 +2,7 @@
 ghost use Rattle.std.specs.Prelude.{◌≡◌};
 ghost use Rattle.array.specs.Moves.{code_of, logged_of, opposite as opposite_of};
 
-#[derive(Drop)]
+#[derive(Clone, Copy)]
 pub enum Way {
     Right,
     Left,
@@ -10,7 +10,7 @@ pub enum Way {
     Down,
 }
 
-#[derive(Drop)]
+#[derive(Clone, Copy)]
 pub enum Move {
     Swap,
     Electronic(Way),
@@ -27,14 +27,14 @@ pub const UP: Move = Move::Electronic(Way::Up);
 pub const DOWN: Move = Move::Electronic(Way::Down);
 
 // A line of a log: the move, and how many records changed cell in it.
-#[derive(Drop)]
+#[derive(Clone, Copy)]
 pub struct LogLine {
     pub step: Move,
     pub moved: u16,
 }
 
 // What a code and a count of a log say.
-#[derive(Drop)]
+#[derive(Clone, Copy)]
 pub enum Logged {
     Line(LogLine),
     NoMove,

@@ -1,4 +1,6 @@
 // Replaying a captured run of concentrate: the first move at which it leaves the rule.
+#![tactic(auto)]
+
 mod state;
 mod walk;
 
@@ -12,7 +14,7 @@ use lists::Trip;
 use refusals::{Sizes, judge_unlogged};
 
 // A record as a capture has it: its cell, its slot (0 front, 1 spare), its word and its aim.
-#[derive(Drop)]
+#[derive(Clone, Copy)]
 pub struct Held {
     pub cell: usize,
     pub slot: usize,
@@ -22,7 +24,7 @@ pub struct Held {
 
 // What a replay answers: all agrees, the first move that differs, the last move of a capture that ends early, or a refusal's number and
 // place.
-#[derive(Drop)]
+#[derive(Clone, Copy)]
 pub enum Replayed {
     Agrees,
     Differs(usize),

@@ -19,7 +19,7 @@ use texts::read::{Numbers, bytes_before, numbers_in};
 
 // What was read of a capture: how many moves; the place in the order that the next record has to reach; how many records were seen behind
 // the last move; and the first move that differs, or 0.
-#[derive(Drop)]
+#[derive(Clone, Copy)]
 pub(crate) struct Tally {
     made: usize,
     next: usize,
@@ -28,7 +28,7 @@ pub(crate) struct Tally {
 }
 
 // A tally behind one line more, or that the line is bad.
-#[derive(Drop)]
+#[derive(Clone, Copy)]
 pub(crate) enum Next {
     On(Tally),
     Bad,

@@ -12,7 +12,7 @@ use shiftlists::{Axis, Edge};
 use stretches::{group_words, group_words_answer};
 
 // An operation on words.
-#[derive(Drop)]
+#[derive(Clone, Copy)]
 pub(crate) enum Operation {
     Broadcast(usize),
     DataSum,
@@ -30,7 +30,7 @@ fn on_words(operation: Operation, side: usize, words: &mut [u32], codes: &mut [u
 }
 
 // A run of records, whole or up to a cut.
-#[derive(Drop)]
+#[derive(Clone, Copy)]
 pub(crate) enum RecordsRun {
     Whole(Trip),
     Cut(Trip, usize),

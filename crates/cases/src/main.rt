@@ -1,4 +1,6 @@
 // Runs every entry, on the bench cases first, and prints what it answers and leaves.
+#![tactic(auto)]
+
 mod calls;
 mod frames;
 mod names;

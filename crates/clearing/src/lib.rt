@@ -1,4 +1,6 @@
 // Lanes before the first move: an unmarked cell holds 0, and so does every cell of a spare lane.
+#![tactic(auto)]
+
 ghost use Rattle.std.specs.Prelude.{◌≡◌, cond, eqb};
 ghost use Rattle.laws.specs.Lent.{old, new};
 ghost use Rattle.clearing.specs.Cleared.{kept, zeros};

@@ -1,1 +1,2 @@
 // What the mover does to records: laws only.
+#![tactic(auto)]

@@ -1,1 +1,2 @@
 // Both engines, the stepping and the plain one, agree: definitions and theorems only.
+#![tactic(auto)]

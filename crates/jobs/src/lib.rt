@@ -1,4 +1,6 @@
 // All that the job program does with its input, on lent slices.
+#![tactic(auto)]
+
 ghost use Rattle.std.specs.Prelude.{◌≡◌, true, ℕ, ◌<◌, ◌≤◌, length, get_or};
 ghost use Rattle.laws.specs.Lent.{old, new};
 ghost use Rattle.array.specs.Cells.{is_side, cells};

@@ -1,4 +1,6 @@
 // The job text, read from a lent slice into lent lanes: a job, or a refusal with its number and line.
+#![tactic(auto)]
+
 ghost use Rattle.std.specs.Prelude.{◌≡◌, ◌≤◌, ◌<◌};
 ghost use Rattle.texts.specs.Lines.{lines_of};
 ghost use Rattle.jobtext.specs.Verdicts.{side_of, mark_line, cells_from, text_verdict};
@@ -8,14 +10,14 @@ use array::cells::is_side;
 use texts::read::{Number, bytes_before, number_of, same};
 
 // What a line after the first gives: a marked cell.
-#[derive(Drop)]
+#[derive(Clone, Copy)]
 pub enum MarkLine {
     Mark { index: usize, word: u32 },
     Malformed,
 }
 
 // What the text of a job is: a job, or a refusal's number and place.
-#[derive(Drop)]
+#[derive(Clone, Copy)]
 pub enum Job {
     Ready { side: usize, marked: usize },
     Refused(usize, usize),

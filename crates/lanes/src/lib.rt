@@ -1,4 +1,6 @@
 // One lane of words: a run of electronic moves.
+#![tactic(auto)]
+
 mod steps;
 
 ghost use Rattle.std.specs.Prelude.{◌≡◌, ◌&&◌, length};
@@ -11,7 +13,7 @@ use array::moves::Way;
 
 // What a cell does with the word that it receives. Add: it adds the word to its own. Copy: it keeps the word in place of its own. Both happen
 // only in the move in which its position has its turn. Fill: in every move it keeps what it receives, and 0 where it receives nothing.
-#[derive(Drop)]
+#[derive(Clone, Copy)]
 pub enum Joining {
     Add,
     Copy,

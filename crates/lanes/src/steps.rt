@@ -11,21 +11,21 @@ use laws::over;
 use sums::plus;
 
 // What the cells do in one move; the front is the position whose turn it is.
-#[derive(Drop)]
+#[derive(Clone, Copy)]
 pub struct JoinRule {
     pub joining: Joining,
     pub front: usize,
 }
 
 // The position of a line from which a word comes.
-#[derive(Drop)]
+#[derive(Clone, Copy)]
 pub enum Source {
     At(usize),
     Nothing,
 }
 
 // The places that take a word in a move, and those from which it comes: the first of each, how far apart they are, and how many.
-#[derive(Drop)]
+#[derive(Clone, Copy)]
 pub struct LinePlaces {
     pub to: usize,
     pub from: usize,

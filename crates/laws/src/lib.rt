@@ -1,4 +1,6 @@
 // Laws of lists, sums and numbers that know nothing of the board: definitions and lemmas for the crates above, and three functions on numbers.
+#![tactic(auto)]
+
 ghost use Rattle.std.specs.Prelude.{◌≡◌, cond, ◌-◌, min};
 
 pub fn least(a: usize, b: usize) -> usize

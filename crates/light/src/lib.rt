@@ -1,4 +1,6 @@
 // A swap: every cell and its partner, at the other end of the light, exchange what they hold, in a lane of words or in all six lanes.
+#![tactic(auto)]
+
 ghost use Rattle.std.specs.Prelude.{◌≡◌, true, ◌≤◌, ◌<◌, length, get_or};
 ghost use Rattle.array.specs.Cells.{is_board, is_side, groups, cells, cell, partner};
 ghost use Rattle.light.specs.Lane.{swapped_lane};

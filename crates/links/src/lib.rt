@@ -1,5 +1,7 @@
 // The link list of the side 8 board, a table of 4,096 entries: where the light from each cell leads. It is kept group by group and taken so,
 // since a table lies on the stack wherever it is read.
+#![tactic(auto)]
+
 ghost use Rattle.std.specs.Prelude.{◌≡◌, min, ◌*◌};
 ghost use Rattle.laws.specs.Tables.{entries};
 ghost use Rattle.links.specs.Links.{entry_of};

@@ -1,4 +1,6 @@
 // The move list of each operation, in nine runs; a shorter list has runs of no moves.
+#![tactic(auto)]
+
 ghost use Rattle.std.specs.Prelude.{◌≡◌, cond, map, ◌-◌, ◌<◌, ◌≤◌};
 ghost use Rattle.runs.specs.Runs.{whole as whole_of};
 ghost use Rattle.array.specs.Cells.{is_side, groups as groups_of};
@@ -76,7 +78,7 @@ pub fn distribute_runs(side: usize) -> [Run; 9]
 }
 
 // What the records are moved for: to the front, or back to the cells that their aims name.
-#[derive(Drop)]
+#[derive(Clone, Copy)]
 pub enum Trip {
     Concentrate,
     Distribute,

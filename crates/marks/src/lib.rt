@@ -1,4 +1,6 @@
 // The check of the marks, which every entry that reads marks makes, and how many there are.
+#![tactic(auto)]
+
 ghost use Rattle.std.specs.Prelude.{◌≡◌, ◌%◌, ◌^◌, ◌≤◌, length};
 ghost use Rattle.laws.specs.Lent.{old};
 ghost use Rattle.marks.specs.Marks.{marks_case, rank_in};

@@ -1,4 +1,6 @@
 // A run of electronic moves of all cells, line by line. All groups make the same moves, each in its own stretch of the lanes.
+#![tactic(auto)]
+
 mod cells;
 mod lines;
 
@@ -15,7 +17,7 @@ use light::are_lanes;
 
 // A run one way, as far as it is made: whether a record heads for its aim mod N (low) or div N, whether it goes as late as it can, how many
 // moves the run has and how many of them are made.
-#[derive(Drop)]
+#[derive(Clone, Copy)]
 pub struct Leg {
     pub side: usize,
     pub way: Way,

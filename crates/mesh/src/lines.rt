@@ -12,7 +12,7 @@ use slots::{Cell, Rec, empty, joined};
 
 // What a line goes by: its length, the stride from one cell of it to the next, the weight of the digit of an aim that names a cell of it,
 // whether records go up the line and down it, whether they go as late as they can, how many moves the run has and how many are made.
-#[derive(Drop)]
+#[derive(Clone, Copy)]
 pub(crate) struct LineRule {
     pub(crate) side: usize,
     pub(crate) stride: usize,
@@ -62,7 +62,7 @@ fn gone(t: LineRule, d: usize) -> usize
 }
 
 // Where a record is after the moves that are made: how far it had to go, the cell, and 1 where that is another.
-#[derive(Drop)]
+#[derive(Clone, Copy)]
 struct Arrival {
     far: usize,
     at: usize,

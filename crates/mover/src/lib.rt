@@ -1,4 +1,6 @@
 // The mover: the moves of whatever list it is given, made one run after the other up to a cut, on six lanes.
+#![tactic(auto)]
+
 ghost use Rattle.std.specs.Prelude.{◌≡◌, true, ℕ, ◌+◌, ◌<◌, ◌≤◌, set};
 ghost use Rattle.std.proofs.lemmas.List.Edits.{sets};
 ghost use Rattle.laws.specs.Lent.{old, new};
@@ -97,7 +99,7 @@ fn log_count(log: &mut [u16], k: usize, count: usize)
 
 // What is known of the first moves of a run once they are made: how many they are, and how many of them swaps; how many records went that had
 // 0 to 7 cells to go, and how many each swap took to another cell.
-#[derive(Drop)]
+#[derive(Clone, Copy)]
 struct Tally {
     made: usize,
     swaps: usize,

@@ -1,5 +1,7 @@
 // What bench software written in C calls; include/otis.h declares it. A slice passes as a pointer and then a length. Nothing holds a
 // C declaration to these signatures, so the boundary trusts the header, which tests alone check.
+#![tactic(auto)]
+
 ghost use Rattle.std.specs.Prelude.{◌≡◌};
 ghost use Rattle.laws.specs.Lent.{old};
 ghost use Rattle.captures.specs.Replays.{replay_of};
@@ -139,7 +141,7 @@ pub extern "C" fn otis_plain_distribute(
 
 // What C gets of a replay: 0 agrees, 1 differs, 2 early or 3 refused; the move; and the number and the place of a refusal.
 #[repr(C)]
-#[derive(Drop)]
+#[derive(Clone, Copy)]
 pub struct Outcome {
     pub outcome: usize,
     pub step: usize,

@@ -1,4 +1,6 @@
 // The plain engine on records: rank, concentrate and distribute, from the cell index alone, without moves.
+#![tactic(auto)]
+
 mod bodies;
 mod counting;
 mod keeping;

@@ -1,4 +1,6 @@
 // The plain engine on words: broadcast, data sum, prefix sum and the eight shifts, from the cell index alone, without moves.
+#![tactic(auto)]
+
 mod axes;
 mod judging;
 mod lines;

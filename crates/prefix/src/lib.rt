@@ -1,4 +1,6 @@
 // Prefix sum, on a lane of words, in the paper's nine steps.
+#![tactic(auto)]
+
 ghost use Rattle.std.specs.Prelude.{◌≡◌, cond, ◌≤◌, length, ltb};
 ghost use Rattle.lanes.specs.Inside.{FitsBoard, Moves};
 ghost use Rattle.prefix.specs.Programs.{prefixed};

@@ -1,4 +1,6 @@
 // Writing: each function puts its text into a lent buffer from index `at` on, as far as the buffer goes, and answers where it ends.
+#![tactic(auto)]
+
 ghost use Rattle.std.specs.Prelude.{[], ◌∷◌};
 ghost use Rattle.printing.specs.Printed.{digits, field};
 ghost use Rattle.printing.specs.Buffers.{Written};

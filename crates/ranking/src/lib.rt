@@ -1,4 +1,6 @@
 // Rank: a marked cell's aim becomes the number of marked cells of smaller index. The marks are summed by the prefix sum's moves.
+#![tactic(auto)]
+
 ghost use Rattle.std.specs.Prelude.{◌≡◌, ◌≤◌, length};
 ghost use Rattle.laws.specs.Lent.{old, new};
 ghost use Rattle.laws.specs.Tables.{entries};

@@ -1,4 +1,6 @@
 // Concentrate and distribute, whole and up to a cut.
+#![tactic(auto)]
+
 mod bodies;
 
 ghost use Rattle.lists.specs.declared.Trip.TheVariants.{Concentrate, Distribute};

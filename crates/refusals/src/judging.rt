@@ -18,7 +18,7 @@ use marks::{count_marks, marks_case};
 use runs::{Run, no_runs};
 
 // What is known of a cell when its aim is judged: its index and rank, its mark and aim, and the aim before it.
-#[derive(Drop)]
+#[derive(Clone, Copy)]
 struct Judged {
     cell: usize,
     rank: usize,

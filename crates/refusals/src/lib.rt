@@ -1,4 +1,6 @@
 // When concentrate and distribute refuse: their answers, by the lengths of what is lent and by the marks and aims.
+#![tactic(auto)]
+
 mod judging;
 
 ghost use Rattle.std.specs.Prelude.{◌≡◌};
@@ -13,7 +15,7 @@ use answers::{Answer, accepted, accepted_by, refusing};
 use lists::{Trip, runs_of};
 
 // The lengths of the lanes that are judged by their length alone.
-#[derive(Drop)]
+#[derive(Clone, Copy)]
 pub struct Sizes {
     pub words: usize,
     pub spare_words: usize,

@@ -1,9 +1,11 @@
 // Reads the job file and the capture file that its two words name, and writes the line that answers them to standard output.
 // One byte more than a text may have is asked for: that many tell that it is too long. What a file holds is for the library to judge.
+#![tactic(auto)]
+
 ghost use Rattle.replay.specs.Reads.{Within};
 
 // What came of a file: so many bytes, or that it cannot be read.
-#[derive(Drop)]
+#[derive(Clone, Copy)]
 enum Read {
     Bytes(usize),
     Unreadable,

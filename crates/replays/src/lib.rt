@@ -1,4 +1,6 @@
 // All that the replay program does with its two texts, on lent slices.
+#![tactic(auto)]
+
 ghost use Rattle.std.specs.Prelude.{◌≡◌, [], ◌∷◌, length};
 ghost use Rattle.laws.specs.Lent.{old, new};
 ghost use Rattle.printing.specs.Printed.{decimal, line};

@@ -1,4 +1,6 @@
 // Move lists are data, in nine runs: move k of a list, its codes in a log, and what it counts.
+#![tactic(auto)]
+
 ghost use Rattle.std.specs.Prelude.{◌≡◌};
 ghost use Rattle.std.proofs.lemmas.List.Edits.{sets};
 ghost use Rattle.runs.specs.Runs.{no_runs, moves, codes as codes_of, step_in, electronic_in, swaps_in};
@@ -6,14 +8,14 @@ ghost use Rattle.runs.specs.Runs.{no_runs, moves, codes as codes_of, step_in, el
 use array::moves::{Move, code};
 
 // The same move made several times.
-#[derive(Drop)]
+#[derive(Clone, Copy)]
 pub struct Run {
     pub step: Move,
     pub times: usize,
 }
 
 // Move k of a list, or that the list is shorter.
-#[derive(Drop)]
+#[derive(Clone, Copy)]
 pub enum Found {
     Step(Move),
     Past,

@@ -1,4 +1,6 @@
 // The move lists of the eight shifts.
+#![tactic(auto)]
+
 ghost use Rattle.std.specs.Prelude.{◌≡◌, ◌≤◌};
 ghost use Rattle.runs.specs.Runs.{along as along_of, swapping as swapping_of};
 ghost use Rattle.shiftlists.specs.Cases.{distance_case};
@@ -9,7 +11,7 @@ use array::moves::{Move, Way, opposite};
 use runs::{Run, no_runs};
 
 // What a shift changes: the column or the row of a cell's place, or of its group.
-#[derive(Drop)]
+#[derive(Clone, Copy)]
 pub enum Axis {
     MeshRow,
     MeshColumn,
@@ -18,14 +20,14 @@ pub enum Axis {
 }
 
 // What becomes of a word that a shift takes over the edge.
-#[derive(Drop)]
+#[derive(Clone, Copy)]
 pub enum Edge {
     ZeroFill,
     Circular,
 }
 
 // How far a shift goes forth, or how far back.
-#[derive(Drop)]
+#[derive(Clone, Copy)]
 pub struct Distance {
     pub forth: usize,
     pub back: usize,

@@ -1,4 +1,6 @@
 // The eight shifts, on a lane of words.
+#![tactic(auto)]
+
 ghost use Rattle.std.specs.Prelude.{◌≡◌, cond, ◌≤◌, ◌<◌, length};
 ghost use Rattle.lanes.specs.Stages.{position as position_of};
 ghost use Rattle.lanes.specs.Inside.{FitsBoard, Moves, swapped_state};
@@ -26,7 +28,7 @@ fn takes(edge: Edge, forth: usize, around: usize, p: usize) -> bool
 }
 
 // A row and a column of a group.
-#[derive(Drop)]
+#[derive(Clone, Copy)]
 pub struct Spot {
     pub row: usize,
     pub column: usize,

@@ -1,9 +1,11 @@
 // What a cell holds: a record, and a second one in the spare slot.
+#![tactic(auto)]
+
 ghost use Rattle.std.specs.Prelude.{◌≡◌, true};
 ghost use Rattle.slots.specs.Cells.{nothing as nothing_of, empty as empty_of, alone as alone_of, joined as joined_of};
 
 // A record: its word, its mark (1, or 0 where there is none) and its aim.
-#[derive(Drop)]
+#[derive(Clone, Copy)]
 pub struct Rec {
     pub word: u32,
     pub mark: u8,
@@ -11,7 +13,7 @@ pub struct Rec {
 }
 
 // A cell: its record, and a second one.
-#[derive(Drop)]
+#[derive(Clone, Copy)]
 pub struct Cell {
     pub front: Rec,
     pub spare: Rec,

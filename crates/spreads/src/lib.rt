@@ -1,4 +1,6 @@
 // Broadcast and data sum, on a lane of words: at the end every cell has the same word.
+#![tactic(auto)]
+
 ghost use Rattle.std.specs.Prelude.{◌≡◌, ◌≤◌, ◌<◌};
 ghost use Rattle.array.specs.Cells.{cells};
 ghost use Rattle.lanes.specs.Machine.{made};

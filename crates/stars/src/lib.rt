@@ -1,1 +1,2 @@
 // The starred bench cases, for the definitions: one table, and no code.
+#![tactic(auto)]

@@ -1,4 +1,6 @@
 // A group's own stretch of a lane of words, and the answer of who asks for it.
+#![tactic(auto)]
+
 ghost use Rattle.std.specs.Prelude.{◌≡◌, ltb, length};
 ghost use Rattle.laws.specs.Lent.{old};
 ghost use Rattle.array.specs.Cells.{groups};

@@ -1,9 +1,11 @@
 // Words added and taken off modulo 2^32, and a lane combined so with another, cell by cell.
+#![tactic(auto)]
+
 ghost use Rattle.std.specs.Prelude.{◌≡◌};
 ghost use Rattle.sums.specs.Sums.{plus as plus_of, combine_of, combined_words};
 
 // A word takes another's place, is added, or is taken off, modulo 2^32.
-#[derive(Drop)]
+#[derive(Clone, Copy)]
 pub enum Combining {
     Take,
     Plus,

@@ -1,2 +1,4 @@
 // Texts of lines, fields and numbers, read from lent slices.
+#![tactic(auto)]
+
 pub mod read;

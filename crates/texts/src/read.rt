@@ -5,14 +5,14 @@ ghost use Rattle.texts.specs.Lines.{bytes_before, fields_of};
 ghost use Rattle.texts.specs.Numbers.{digits_from, number_of, two, four, numbers_of, numbers_in};
 
 // What a field is as a number.
-#[derive(Drop)]
+#[derive(Clone, Copy)]
 pub enum Number {
     Of(u32),
     Not,
 }
 
 // What the fields of a line write: two numbers, or four.
-#[derive(Drop)]
+#[derive(Clone, Copy)]
 pub enum Numbers {
     Two(u32, u32),
     Four(u32, u32, u32, u32),

@@ -6,7 +6,7 @@ use array::moves::Move;
 use runs::{Run, swaps_in};
 
 // A move of a list: how many moves of its run remain, itself counted, and how many swaps were made before it.
-#[derive(Drop)]
+#[derive(Clone, Copy)]
 pub struct Turn {
     pub step: Move,
     pub remaining: usize,

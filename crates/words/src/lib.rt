@@ -1,4 +1,6 @@
 // The operations that use words only: broadcast, data sum, prefix sum and the eight shifts.
+#![tactic(auto)]
+
 mod judging;
 
 ghost use Rattle.words.specs.Entries.{Broadcast, DataSum, PrefixSum, Shift};
