@@ -13,7 +13,7 @@ use records::concentrate_cut;
 use slots::Rec;
 
 // The lanes of a starting table: a board of side 3 has 81 cells.
-#[derive(Drop)]
+#[derive(Clone, Copy)]
 pub(crate) struct Start {
     words: [u32; 81],
     marks: [u8; 81],
@@ -21,7 +21,7 @@ pub(crate) struct Start {
 }
 
 // Records in their order, at most two of each cell.
-#[derive(Drop)]
+#[derive(Clone, Copy)]
 pub(crate) struct Records {
     pub list: [Held; 162],
     pub count: usize,

@@ -80,7 +80,7 @@ fn one_if(mark: u8) -> usize
 }
 
 // Records at the front, aimed back at marked cells.
-#[derive(Drop)]
+#[derive(Clone, Copy)]
 pub(crate) struct Gathered {
     pub(crate) marks: [u8; 4096],
     pub(crate) aims: [u16; 4096],

@@ -63,7 +63,7 @@ fn leg_of(trip: Trip, side: usize, swaps: usize, run: Run, made: usize) -> Leg
 }
 
 // Whether a record goes in move j of a run that had d cells to go.
-fn goes_in_lem(late: bool, times: usize, j: usize, d: usize) -> bool
+fn goes_in(late: bool, times: usize, j: usize, d: usize) -> bool
     ensures { result ≡ goes_in late times j d }
 {
     if late {
@@ -81,7 +81,7 @@ fn movers(late: bool, times: usize, went: [usize; 8], j: usize) -> usize
     let mut d: usize = 0;
     while d < 8 {
         let records = went[d];
-        count += counted(goes_in_lem(late, times, j, d), records);
+        count += counted(goes_in(late, times, j, d), records);
         d += 1;
     }
     count
