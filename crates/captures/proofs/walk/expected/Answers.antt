@@ -1,0 +1,9 @@
+-- `captures::walk::expected` meets its contract: another move, another state.
+use Rattle.captures.proofs.Telling.{expected-same, expected-new}
+use Rattle.captures.proofs.walk.expected.Goals as goal
+
+pub returns-then-made-now_made : goal.returns-then-made-now_made
+returns-then-made-now_made c = search expected-same
+
+pub returns : goal.returns
+returns c = search expected-new

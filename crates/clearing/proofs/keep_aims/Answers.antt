@@ -1,0 +1,48 @@
+-- `clearing::keep_aims` meets its contract: cell after cell, by its mark.
+use Prim.Native.Nat.{◌-◌}
+use mathlib.Core.Path.{refl}
+use native.Mathlib.Omega.{arith}
+use Rattle.laws.proofs.Rewriting.{rewriting_start}
+use Rattle.clearing.specs.Cleared.{kept_at}
+use Rattle.clearing.proofs.Keeping.{keeping_next, keeping_end, kept_other}
+use Rattle.clearing.proofs.keep_aims.Goals as goal
+
+pub returns-then-marks-n : goal.returns-then-marks-n
+returns-then-marks-n c =
+    let a = c.args in
+    kept_other a.marks.now a.aims.now c.if-marks-n.true
+
+pub loop-i-init : goal.loop-i-init
+loop-i-init c =
+    let a = c.args in
+    (refl, rewriting_start (kept_at a.marks.now a.aims.now) 0 a.aims.now)
+
+pub bounds-marks-i : goal.bounds-marks-i
+bounds-marks-i c = omega (arith, c.if-marks-n.false, c.loop-i-test.true, c.loop-i.invariant.0)
+
+pub bounds-aims-i : goal.bounds-aims-i
+bounds-aims-i c =
+    omega (arith, c.loop-i-test.true, c.loop-i.invariant.0, c.loop-i.invariant.1.long)
+
+pub bounds-aims-i-in-loop-i : goal.bounds-aims-i-in-loop-i
+bounds-aims-i-in-loop-i c =
+    omega (arith, c.loop-i-test.true, c.loop-i.invariant.0, c.loop-i.invariant.1.long)
+
+pub loop-i-smaller : goal.loop-i-smaller
+loop-i-smaller c = omega (arith, c.loop-i-test.true)
+
+pub loop-i-preserved : goal.loop-i-preserved
+loop-i-preserved c =
+    let a = c.args in
+    let i = c.loop-i.invariant in
+    let h = c.loop-i-test.true in
+    (i.0, keeping_next a.marks.now a.aims.now (omega (arith, h, i.0, i.1.long)) c.aim_kept.ensures i.1)
+
+pub shape_of-aims : goal.shape_of-aims
+shape_of-aims c = c.loop-i.invariant.1.long
+
+pub returns : goal.returns
+returns c =
+    let a = c.args in
+    let i = c.loop-i.invariant in
+    keeping_end a.marks.now a.aims.now c.if-marks-n.false (omega (arith, c.loop-i-test.false, i.0)) i.1

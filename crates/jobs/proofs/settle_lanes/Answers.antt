@@ -1,0 +1,58 @@
+-- `jobs::settle_lanes` meets its contract: lanes of its own are as long as the board.
+use mathlib.Core.Path.{◌∙◌}
+use lib.Seq.{length-take-le}
+use Rattle.texts.proofs.Reading.{part_length}
+use Rattle.jobs.proofs.Answered.{lane_room}
+use Rattle.jobs.proofs.settle_lanes.Reads as reads
+use Rattle.jobs.proofs.settle_lanes.Goals as goal
+
+pub slice_bounds-aims-end : goal.slice_bounds-aims-end
+slice_bounds-aims-end c =
+    lane_room c.args.side c.requires.side_value c.requires.words_len.0
+
+pub slice_bounds-settle-end : goal.slice_bounds-settle-end
+slice_bounds-settle-end c =
+    part_length _ _ (lane_room c.args.side c.requires.side_value c.requires.words_len.0)
+
+pub slice_bounds-spare_words-end : goal.slice_bounds-spare_words-end
+slice_bounds-spare_words-end c =
+    lane_room c.args.side c.requires.side_value c.requires.words_len.0
+
+pub slice_bounds-settle-end-2 : goal.slice_bounds-settle-end-2
+slice_bounds-settle-end-2 c =
+    part_length _ _ (lane_room c.args.side c.requires.side_value c.requires.words_len.0)
+
+pub slice_bounds-spare_marks-end : goal.slice_bounds-spare_marks-end
+slice_bounds-spare_marks-end c =
+    lane_room c.args.side c.requires.side_value c.requires.words_len.0
+
+pub slice_bounds-settle-end-3 : goal.slice_bounds-settle-end-3
+slice_bounds-settle-end-3 c =
+    part_length _ _ (lane_room c.args.side c.requires.side_value c.requires.words_len.0)
+
+pub slice_bounds-spare_aims-end : goal.slice_bounds-spare_aims-end
+slice_bounds-spare_aims-end c =
+    lane_room c.args.side c.requires.side_value c.requires.words_len.0
+
+pub slice_bounds-settle-end-4 : goal.slice_bounds-settle-end-4
+slice_bounds-settle-end-4 c =
+    part_length _ _ (lane_room c.args.side c.requires.side_value c.requires.words_len.0)
+
+pub settle-requires : goal.settle-requires
+settle-requires c =
+    let p = c.requires in
+    let r = lane_room c.args.side p.0 p.1.0.0 in
+    record {
+      side = p.0;
+      sized = record {
+        words = p.1.0.0;
+        marks = p.1.0.1;
+        aims = length-take-le _ _ r ∙ p.1.0.0;
+        words2 = length-take-le _ _ r ∙ p.1.0.0;
+        marks2 = length-take-le _ _ r ∙ p.1.0.0;
+        aims2 = length-take-le _ _ r ∙ p.1.0.0;
+      };
+      marked = p.1.1.0;
+      codes_room = p.1.1.1.0;
+      moved_room = p.1.1.1.1;
+    }

@@ -1,0 +1,20 @@
+-- `jobs::solve` meets its contract: what concentrate leaves is what is printed.
+use native.Mathlib.Omega.{arith}
+use Rattle.array.proofs.Board.{side_known}
+use Rattle.jobs.proofs.Answered.{solve_filled}
+use borrow.Author.Rules.{rules}
+use Rattle.jobs.proofs.solve.Goals as goal
+
+pub settle_lanes-requires : goal.settle_lanes-requires
+settle_lanes-requires c =
+    let b = c.requires in (b.side, ((b.words_long, b.marks_long), (b.good, search rules)))
+
+pub print-requires : goal.print-requires
+print-requires c =
+    let b = c.requires in
+    let k = side_known c.args.side b.side in
+    (b.side, (omega (arith, k, b), (search rules, search rules, omega (arith, b, c.settle_lanes.auto.1.0))))
+
+pub returns : goal.returns
+returns c =
+    solve_filled c.requires c.settle_lanes.auto.1.0 c.settle_lanes.ensures c.print.ensures

@@ -1,0 +1,7 @@
+-- `light::trade_group` meets its contract: with its part of the link list at side 8, and else with none.
+use Rattle.light.proofs.Partners.{listed_links}
+use Rattle.light.proofs.trade_group.Goals as goal
+
+pub trade_places-requires : goal.trade_places-requires
+trade_places-requires c =
+    (c.requires.lane_value, (listed_links c.args.side c.args.g _ c.if-side-eq8.true c.requires.g_bound c.links_of-list.ensures, c.requires.g_bound))

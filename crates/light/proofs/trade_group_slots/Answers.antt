@@ -1,0 +1,7 @@
+-- `light::trade_group_slots` meets its contract: with its part of the link list at side 8, and else with none.
+use Rattle.light.proofs.Partners.{listed_links}
+use Rattle.light.proofs.trade_group_slots.Goals as goal
+
+pub trade_slot_places-requires : goal.trade_slot_places-requires
+trade_slot_places-requires c =
+    (c.requires.aims_value, (listed_links c.args.side c.args.g _ c.if-side-eq8.true c.requires.g_bound c.links_of-list.ensures, c.requires.g_bound))

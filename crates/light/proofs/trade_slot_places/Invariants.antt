@@ -1,0 +1,10 @@
+use Prim.Native.Nat.{◌-◌}
+use Rattle.light.specs.Lanes.{slots}
+use Rattle.light.proofs.Walking.{Sweeping}
+use Rattle.light.proofs.trade_slot_places.Given as goal
+
+abbrev pub invariant-loop-p : goal.invariant-loop-p
+invariant-loop-p l = Sweeping l.side l.g l.p (slots l.initial.words l.initial.marks l.initial.aims) (slots l.words l.marks l.aims) l.moved
+
+abbrev pub decreases-loop-p : goal.decreases-loop-p
+decreases-loop-p l = l.groups - l.p

@@ -1,0 +1,9 @@
+use Prim.Native.Nat.{◌-◌}
+use Rattle.mover.proofs.Running.{Adding}
+use Rattle.mover.proofs.movers.Given as goal
+
+abbrev pub invariant-loop-d : goal.invariant-loop-d
+invariant-loop-d l = Adding l.late l.times l.went l.j l.d l.count
+
+abbrev pub decreases-loop-d : goal.decreases-loop-d
+decreases-loop-d l = 8 - l.d

@@ -1,0 +1,13 @@
+-- `ranking::rank_lanes` meets its contract: the marks are loaded, summed and turned into aims.
+use mathlib.Core.Path.{◌∙◌}
+use Rattle.ranking.proofs.Aims.{summed, ranks_are}
+use borrow.Author.Rules.{rules}
+use Rattle.ranking.proofs.rank_lanes.Goals as goal
+
+pub set_aims-requires : goal.set_aims-requires
+set_aims-requires c =
+    (summed c.requires.good_marks c.load_marks.ensures c.prefix_words.ensures, search rules)
+
+pub returns : goal.returns
+returns c =
+    c.set_aims.ensures ∙ ranks_are c.args.side c.args.marks.now c.requires.good_marks.size

@@ -1,0 +1,10 @@
+-- `shiftlists::modulo` meets its contract: k, or the side less what k is below 0.
+use borrow.Author.Tests.{lt-ltb, le-ltb}
+use borrow.Author.Rules.{rules}
+use Rattle.shiftlists.proofs.modulo.Goals as goal
+
+pub returns-then-k-gt0 : goal.returns-then-k-gt0
+returns-then-k-gt0 c = (rw (lt-ltb 0 _ c.if-k-gt0.true), search rules)
+
+pub returns-else-k-gt0 : goal.returns-else-k-gt0
+returns-else-k-gt0 c = (rw (le-ltb 0 _ c.if-k-gt0.false), search rules)

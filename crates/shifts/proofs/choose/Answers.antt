@@ -1,0 +1,49 @@
+-- `shifts::choose` meets its contract: cell by cell, by `Renewed`, with the spot of each by `Spotted`.
+use Prim.Native.Nat.{◌-◌}
+use native.Mathlib.Omega.{arith}
+use mathlib.Core.Path.{◌∙◌}
+use Rattle.shifts.specs.Inside.{takes}
+use Rattle.sums.proofs.Renewing.{renewed_start, renewed_next, renewed_end}
+use Rattle.shifts.proofs.Spotted.{spotted_start, spotted_next, row_less, column_less}
+use Rattle.shifts.proofs.choose.Goals as goal
+
+pub loop-i-init : goal.loop-i-init
+loop-i-init c = (omega arith, spotted_start c.requires.le_side, renewed_start)
+
+pub offset_bounds-back-i : goal.offset_bounds-back-i
+offset_bounds-back-i c = omega (arith, c.loop-i.invariant.2.size)
+
+pub bounds-back-i : goal.bounds-back-i
+bounds-back-i c = omega (arith, c.loop-i.invariant.2.size)
+
+pub offset_bounds-words-i : goal.offset_bounds-words-i
+offset_bounds-words-i c = omega (arith, c.loop-i.invariant.2.size)
+
+pub bounds-words-i : goal.bounds-words-i
+bounds-words-i c = omega (arith, c.loop-i.invariant.2.size)
+
+pub offset_bounds-words-i-in-loop-i : goal.offset_bounds-words-i-in-loop-i
+offset_bounds-words-i-in-loop-i c = omega (arith, c.loop-i.invariant.2.size)
+
+pub bounds-words-i-in-loop-i : goal.bounds-words-i-in-loop-i
+bounds-words-i-in-loop-i c = omega (arith, c.loop-i.invariant.2.size)
+
+pub next_spot-spot-requires : goal.next_spot-spot-requires
+next_spot-spot-requires c =
+    (row_less c.requires.le_side c.loop-i.invariant.1, column_less c.requires.le_side c.loop-i.invariant.1)
+
+pub overflow_add-i : goal.overflow_add-i
+overflow_add-i c = omega (arith, c.loop-i.invariant.2.size)
+
+pub loop-i-smaller : goal.loop-i-smaller
+loop-i-smaller c = omega (arith, c.loop-i.invariant.2.size)
+
+pub loop-i-preserved : goal.loop-i-preserved
+loop-i-preserved c =
+    (omega (arith, c.loop-i.invariant.2.size), rw c.next_spot-spot.ensures (spotted_next c.requires.le_side c.loop-i.invariant.1), renewed_next _ (omega arith) (c.pick-v.ensures ∙ rw (c.takes.ensures, c.position-p.ensures, c.loop-i.invariant.1.row_is, c.loop-i.invariant.1.column_is)) c.loop-i.invariant.2)
+
+pub shape_of-words : goal.shape_of-words
+shape_of-words c = c.loop-i.invariant.2.size
+
+pub returns : goal.returns
+returns c = renewed_end (omega (arith, c.loop-i.invariant.2.size)) c.loop-i.invariant.2

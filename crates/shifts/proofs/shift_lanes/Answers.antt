@@ -1,0 +1,8 @@
+-- `shifts::shift_lanes` meets its contract: what went forth, what went around, and the choice between them.
+use Rattle.shifts.proofs.Composing.{shift_lanes}
+use Rattle.shifts.proofs.shift_lanes.Goals as goal
+
+pub returns : goal.returns
+returns c =
+    shift_lanes _ c.args.way c.args.edge c.args.forth c.args.around _ c.requires.forth_le_side.0 c.requires.forth_le_side.1 c.opposite.ensures
+    c.combine.ensures c.run.ensures c.run-2.ensures c.choose.ensures
