@@ -34,7 +34,7 @@ pub enum Replayed {
 
 // Replays a capture from a starting table. It is judged and compared in one walk, and a refusal anywhere comes before a difference anywhere.
 pub fn replay(side: usize, words: &[u32], marks: &[u8], aims: &[u16], capture: &[u8]) -> Replayed
-    ensures { result ≡ replay_of side (old words) (old marks) (old aims) (old capture) }
+    ensures { result ≡ replay_of side words.now marks.now aims.now capture.now }
 {
     let n = words.len();
     let sizes = Sizes {

@@ -90,7 +90,7 @@ fn records_in(
 ) -> Records
     requires n_bound { n ≤ 81 }
     requires long { Long n words marks aims spare_words spare_marks spare_aims }
-    ensures { Listing (held_below (cell_at (old words) (old marks) (old aims) (old spare_words) (old spare_marks) (old spare_aims)) n) result }
+    ensures { Listing (held_below (cell_at words.now marks.now aims.now spare_words.now spare_marks.now spare_aims.now) n) result }
 {
     let mut records = no_records();
     let mut i: usize = 0;
@@ -127,7 +127,7 @@ fn records_on(
     requires startable { Startable side words.old marks.old aims.old }
     requires long { Long (cells side) words marks aims spare_words spare_marks spare_aims }
     requires made_bound { made ≤ total_moves side }
-    ensures { Listing (records_after side (old words) (old marks) (old aims) made) result }
+    ensures { Listing (records_after side words.old marks.old aims.old made) result }
 {
     concentrate_cut(
         side,
@@ -180,7 +180,7 @@ pub(crate) fn load(words: &[u32], marks: &[u8], aims: &[u16]) -> Start
     requires words_len_bound { length words.now ≤ 81 }
     requires marks_len { length marks.now ≡ length words.now }
     requires aims_len { length aims.now ≡ length words.now }
-    ensures { Loaded (old words) (old marks) (old aims) result }
+    ensures { Loaded words.now marks.now aims.now result }
 {
     let mut w = [0u32; 81];
     let mut m = [0u8; 81];

@@ -250,7 +250,7 @@ pub(crate) fn walk(side: usize, n: usize, start: Start, capture: &[u8]) -> Repla
     requires started { Started side start }
     requires n_value { n ≡ cells side }
     requires capture_len_bound { length capture.now ≤ 65536 }
-    ensures { result ≡ resolved_from side start no_tally (capture_from side 0 0 1 (lines_of (old capture))) }
+    ensures { result ≡ resolved_from side start no_tally (capture_from side 0 0 1 (lines_of capture.now)) }
 {
     let mut at = 0;
     let mut line = 1;

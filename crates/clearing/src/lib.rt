@@ -21,7 +21,7 @@ fn aim_kept(mark: u8, aim: u16) -> u16
 
 // Unmarked cells hold 0. A lane that has not as many marks stays as it is.
 pub fn keep_words(marks: &[u8], words: &mut [u32])
-    ensures { new words ≡ kept (old marks) (old words) }
+    ensures { new words ≡ kept marks.now words.old }
 {
     let n = words.len();
     if marks.len() != n {
@@ -36,7 +36,7 @@ pub fn keep_words(marks: &[u8], words: &mut [u32])
 
 // Unmarked cells hold 0. A lane that has not as many marks stays as it is.
 pub fn keep_aims(marks: &[u8], aims: &mut [u16])
-    ensures { new aims ≡ kept (old marks) (old aims) }
+    ensures { new aims ≡ kept marks.now aims.old }
 {
     let n = aims.len();
     if marks.len() != n {
@@ -51,7 +51,7 @@ pub fn keep_aims(marks: &[u8], aims: &mut [u16])
 
 // Every cell holds 0.
 pub fn zero_words(spare_words: &mut [u32])
-    ensures { new spare_words ≡ zeros (old spare_words) }
+    ensures { new spare_words ≡ zeros spare_words.old }
 {
     let mut i: usize = 0;
     while i < spare_words.len() {
@@ -62,7 +62,7 @@ pub fn zero_words(spare_words: &mut [u32])
 
 // Every cell holds 0.
 pub fn zero_marks(spare_marks: &mut [u8])
-    ensures { new spare_marks ≡ zeros (old spare_marks) }
+    ensures { new spare_marks ≡ zeros spare_marks.old }
 {
     let mut i: usize = 0;
     while i < spare_marks.len() {
@@ -73,7 +73,7 @@ pub fn zero_marks(spare_marks: &mut [u8])
 
 // Every cell holds 0.
 pub fn zero_aims(spare_aims: &mut [u16])
-    ensures { new spare_aims ≡ zeros (old spare_aims) }
+    ensures { new spare_aims ≡ zeros spare_aims.old }
 {
     let mut i: usize = 0;
     while i < spare_aims.len() {

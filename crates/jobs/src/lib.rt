@@ -18,7 +18,7 @@ use records::concentrate;
 
 // The line of a refused job: nothing where the job is one.
 fn refuse(out: &mut [u8; 196608], job: Job) -> usize
-    ensures { OutFilled (old out) (refusal_of job) result (new out) }
+    ensures { OutFilled out.old (refusal_of job) result out.new }
 {
     match job {
         Job::Refused(number, place) => refusal(out, number, place),
@@ -38,7 +38,7 @@ fn print(
     requires side_value { is_side side ≡ true }
     requires marked_bound { marked ≤ 4096 }
     requires codes_len { (length codes.now ≡ 51) × (length moved.now ≡ 51) × (marked ≤ length words.now) }
-    ensures { OutFilled (old out) (printed_of side marked (old codes) (old moved) (old words)) result (new out) }
+    ensures { OutFilled out.old (printed_of side marked codes.now moved.now words.now) result out.new }
 {
     let moves = total_moves(side);
     answer(out, &codes[..moves], &moved[..moves], &words[..marked])
@@ -57,7 +57,7 @@ fn settle(
     moved: &mut [u16],
 )
     requires { JobBoard side words.old marks.old aims.old spare_words.old spare_marks.old spare_aims.old codes.old moved.old }
-    ensures { Settled side (old words) (old marks) (new words) (new codes) (new moved) }
+    ensures { Settled side words.old marks.old words.new codes.new moved.new }
 {
     rank(side, marks, aims, codes);
     concentrate(
@@ -85,7 +85,7 @@ fn settle_lanes(
     requires words_len { (length words.old ≡ cells side) × (length marks.old ≡ cells side) }
     requires by_index { (k : ℕ) → k < length marks.old → get_or marks.old k 0 < 2 }
     requires codes_len { (length codes.old ≡ 51) × (length moved.old ≡ 51) }
-    ensures { Settled side (old words) (old marks) (new words) (new codes) (new moved) }
+    ensures { Settled side words.old marks.old words.new codes.new moved.new }
 {
     let n = words.len();
     let mut aims = [0u16; 4096];
@@ -114,7 +114,7 @@ fn solve(
     marks: &mut [u8],
 ) -> usize
     requires { JobLanes side marked words.old marks.old }
-    ensures { OutFilled (old out) (lanes_text side marked (old words) (old marks)) result (new out) }
+    ensures { OutFilled out.old (lanes_text side marked words.old marks.old) result out.new }
 {
     let mut codes = [0u8; 51];
     let mut moved = [0u16; 51];
@@ -124,7 +124,7 @@ fn solve(
 
 // All that the program does with its input.
 pub fn run(text: &[u8], out: &mut [u8; 196608]) -> usize
-    ensures { OutFilled (old out) (output_of (text_verdict (old text))) result (new out) }
+    ensures { OutFilled out.old (output_of (text_verdict text.now)) result out.new }
 {
     let mut words = [0u32; 4096];
     let mut marks = [0u8; 4096];

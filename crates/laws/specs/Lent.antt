@@ -1,15 +1,15 @@
 -- A slice of numbers that a function is lent: what it held, and what it holds.
 use Rattle.std.specs.Prelude.{ℕ, ◌≡◌, List}
 use denote.Triple.Both.{Both}
-use Rattle.std.specs.Borrow.{Bor}
+use Rattle.std.specs.Borrow.{MutBor}
 
 -- in a requires
 abbrev pub Slice : Type 0
-Slice = Bor (List ℕ)
+Slice = MutBor (List ℕ)
 
 -- in an ensures
 abbrev pub Lent : Type 0
-Lent = Both (Bor (List ℕ)) (Bor (List ℕ))
+Lent = Both (MutBor (List ℕ)) (MutBor (List ℕ))
 
 abbrev pub old : Lent → List ℕ
 old l = l.entry.now

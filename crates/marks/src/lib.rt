@@ -16,7 +16,7 @@ fn greater(a: u8, b: u8) -> u8
 
 // No mark is above it.
 fn greatest_mark(marks: &[u8]) -> u8
-    ensures { AtMost result (old marks) }
+    ensures { AtMost result marks.now }
 {
     let mut most: u8 = 0;
     let mut i: usize = 0;
@@ -29,7 +29,7 @@ fn greatest_mark(marks: &[u8]) -> u8
 
 // Cell after cell, to the first bad mark.
 fn search(marks: &[u8]) -> Case
-    ensures { result ≡ marks_case (old marks) }
+    ensures { result ≡ marks_case marks.now }
 {
     let mut i: usize = 0;
     while i < marks.len() {
@@ -43,7 +43,7 @@ fn search(marks: &[u8]) -> Case
 
 // The greatest mark is looked for first: for that a processor takes many marks at a time, and for the first bad one it goes mark by mark.
 pub fn marks_case(marks: &[u8]) -> Case
-    ensures { result ≡ marks_case (old marks) }
+    ensures { result ≡ marks_case marks.now }
 {
     if greatest_mark(marks) < 2 {
         return case_of(false, 5, marks.len());
@@ -59,7 +59,7 @@ fn wide(mark: u8) -> u16
 
 // How many cells are marked, modulo 2^16: no board has as many. Of numbers of 16 bits a processor adds many at a time.
 pub fn count_marks(marks: &[u8]) -> usize
-    ensures { result ≡ rank_in (old marks) (length (old marks)) % 2 ^ 16 }
+    ensures { result ≡ rank_in marks.now (length marks.now) % 2 ^ 16 }
 {
     let mut count: u16 = 0;
     let mut i: usize = 0;

@@ -18,7 +18,7 @@ pub(crate) fn any_goes(
 ) -> bool
     requires ruled { Ruled t share × Lies t n start }
     requires marks_len { (length marks.now ≡ n) × (length aims.now ≡ n) }
-    ensures { result ≡ not (none_leaves t (slots_at t start (old marks) (old aims)) t.side) }
+    ensures { result ≡ not (none_leaves t (slots_at t start marks.now aims.now) t.side) }
 {
     let mut p: usize = 0;
     while p < t.side {

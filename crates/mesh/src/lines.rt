@@ -108,7 +108,7 @@ fn put_line(
 ) -> [Cell; 8]
     requires ruled { Ruled t share }
     requires roomy { Roomy 65536 counts }
-    ensures { PutDown t (cells_of fronts spares) (2 * t.side) (old counts) (new counts) result }
+    ensures { PutDown t (cells_of fronts spares) (2 * t.side) counts.old counts.new result }
 {
     let none = empty();
     let mut line = [none; 8];
@@ -147,7 +147,7 @@ fn line_goes(
     requires ruled { Ruled t share × Lies t n start }
     requires marks_len { (length marks.now ≡ n) × (length aims.now ≡ n) }
     requires spare_marks_len { (length spare_marks.now ≡ n) × (length spare_aims.now ≡ n) }
-    ensures { result ≡ not (none_leaves t (slots_at t start (old marks) (old aims)) t.side && none_leaves t (slots_at t start (old spare_marks) (old spare_aims)) t.side) }
+    ensures { result ≡ not (none_leaves t (slots_at t start marks.now aims.now) t.side && none_leaves t (slots_at t start spare_marks.now spare_aims.now) t.side) }
 {
     if any_goes(t, share, n, start, marks, aims) {
         return true;

@@ -90,7 +90,7 @@ fn movers(late: bool, times: usize, went: [usize; 8], j: usize) -> usize
 // Writes the count of move k, as far as the log goes.
 fn log_count(log: &mut [u16], k: usize, count: usize)
     requires { count ≤ 65535 }
-    ensures { new log ≡ set (old log) k count }
+    ensures { new log ≡ set log.old k count }
 {
     if k < log.len() {
         log[k] = count as u16;
@@ -111,7 +111,7 @@ struct Tally {
 fn log_run(trip: Trip, times: usize, from: usize, tally: Tally, moved: &mut [u16])
     requires few_went { FewWent tally.went × (from + tally.made < 18446744073709551616) }
     requires by_index { (j : ℕ) → j < tally.made → tallied (is_late trip) times tally j ≤ 65535 }
-    ensures { new moved ≡ sets (old moved) from (entries (tallied (is_late trip) times tally) 0 tally.made) }
+    ensures { new moved ≡ sets moved.old from (entries (tallied (is_late trip) times tally) 0 tally.made) }
 {
     let late = is_late(trip);
     let went = tally.went;

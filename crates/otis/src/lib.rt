@@ -188,7 +188,7 @@ pub extern "C" fn otis_replay(
     aims: &[u16],
     capture: &[u8],
 ) -> Outcome
-    ensures { result ≡ outcome_of (replay_of side (old words) (old marks) (old aims) (old capture)) }
+    ensures { result ≡ outcome_of (replay_of side words.now marks.now aims.now capture.now) }
 {
     outcome_of(replay(side, words, marks, aims, capture))
 }

@@ -8,7 +8,7 @@ use clearing::{zero_aims, zero_words};
 // The first cells, so many, keep their words, and all others hold 0.
 pub(crate) fn keep_first_words(count: usize, words: &mut [u32])
     requires { count ≤ length words.old }
-    ensures { new words ≡ up_to count (λ i. get_or (old words) i 0) (length (old words)) }
+    ensures { new words ≡ up_to count (λ i. get_or words.old i 0) (length words.old) }
 {
     zero_words(&mut words[count..]);
 }
@@ -16,7 +16,7 @@ pub(crate) fn keep_first_words(count: usize, words: &mut [u32])
 // The same of aims.
 pub(crate) fn keep_first_aims(count: usize, aims: &mut [u16])
     requires { count ≤ length aims.old }
-    ensures { new aims ≡ up_to count (λ i. get_or (old aims) i 0) (length (old aims)) }
+    ensures { new aims ≡ up_to count (λ i. get_or aims.old i 0) (length aims.old) }
 {
     zero_aims(&mut aims[count..]);
 }

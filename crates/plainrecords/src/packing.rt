@@ -14,7 +14,7 @@ use clearing::{zero_aims, zero_marks};
 fn gather(marks: &[u8], words: &mut [u32]) -> usize
     requires board_marks { BoardMarks marks.now }
     requires words_len { length words.old ≡ length marks.now }
-    ensures { Gathered (old marks) (old words) (new words) result }
+    ensures { Gathered marks.now words.old words.new result }
 {
     let mut rank: usize = 0;
     let mut i: usize = 0;
@@ -28,7 +28,7 @@ fn gather(marks: &[u8], words: &mut [u32]) -> usize
 
 // Every cell is marked.
 fn mark_all(marks: &mut [u8])
-    ensures { new marks ≡ entries (λ i. 1) 0 (length (old marks)) }
+    ensures { new marks ≡ entries (λ i. 1) 0 (length marks.old) }
 {
     let mut i: usize = 0;
     while i < marks.len() {
@@ -40,7 +40,7 @@ fn mark_all(marks: &mut [u8])
 // Every cell is its own aim.
 fn number_all(aims: &mut [u16])
     requires { length aims.old ≤ 4096 }
-    ensures { new aims ≡ entries (λ i. i) 0 (length (old aims)) }
+    ensures { new aims ≡ entries (λ i. i) 0 (length aims.old) }
 {
     let mut i: usize = 0;
     while i < aims.len() {
@@ -52,7 +52,7 @@ fn number_all(aims: &mut [u16])
 // The first cells are marked, and no others.
 fn mark_first(count: usize, marks: &mut [u8])
     requires { count ≤ length marks.old }
-    ensures { new marks ≡ up_to count (λ i. 1) (length (old marks)) }
+    ensures { new marks ≡ up_to count (λ i. 1) (length marks.old) }
 {
     mark_all(&mut marks[..count]);
     zero_marks(&mut marks[count..]);
@@ -62,7 +62,7 @@ fn mark_first(count: usize, marks: &mut [u8])
 fn number_first(count: usize, aims: &mut [u16])
     requires count_in_bounds { count ≤ length aims.old }
     requires aims_len_bound { length aims.old ≤ 4096 }
-    ensures { new aims ≡ up_to count (λ i. i) (length (old aims)) }
+    ensures { new aims ≡ up_to count (λ i. i) (length aims.old) }
 {
     number_all(&mut aims[..count]);
     zero_aims(&mut aims[count..]);

@@ -26,7 +26,7 @@ fn aim(mark: u8, count: usize) -> u16
 pub(crate) fn write_ranks(marks: &[u8], aims: &mut [u16])
     requires board_marks { BoardMarks marks.now }
     requires aims_len { length aims.old ≡ length marks.now }
-    ensures { new aims ≡ entries (aim_in (old marks)) 0 (length (old marks)) }
+    ensures { new aims ≡ entries (aim_in marks.now) 0 (length marks.now) }
 {
     let mut count: usize = 0;
     let mut i: usize = 0;
@@ -40,7 +40,7 @@ pub(crate) fn write_ranks(marks: &[u8], aims: &mut [u16])
 
 // The counts are those of the list, without the list.
 pub(crate) fn judge_rank(side: usize, marks: &[u8], aims: usize) -> Answer
-    ensures { result ≡ verdict (without_logs (rank_cases side (old marks) aims 0)) (accepted_by (prefix_sum_runs side)) }
+    ensures { result ≡ verdict (without_logs (rank_cases side marks.now aims 0)) (accepted_by (prefix_sum_runs side)) }
 {
     let made = accepted(over(total_moves(side), 2), 2);
     let good = refusing(marks_case(marks), made);

@@ -16,7 +16,7 @@ fn place(aim: u16) -> usize
 // Of so many records the last one has to go: its aim is not its own cell. Where it stays, so do all before it, since aims rise.
 fn goes(records: usize, aims: &[u16]) -> bool
     requires { records ≤ length aims.now }
-    ensures { result ≡ last_goes records (old aims) }
+    ensures { result ≡ last_goes records aims.now }
 {
     if records == 0 {
         return false;

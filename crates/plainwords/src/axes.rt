@@ -89,7 +89,7 @@ fn blocks_along(side: usize, axis: Axis) -> usize
 pub(crate) fn shift_along(side: usize, axis: Axis, edge: Edge, k: Distance, words: &mut [u32])
     requires fits_board { FitsBoard side (length words.old) }
     requires near { Near side k }
-    ensures { new words ≡ unload side (shifted axis (came_from edge side k) (load side (old words))) }
+    ensures { new words ≡ unload side (shifted axis (came_from edge side k) (load side words.old)) }
 {
     let from = sources(edge, side, k);
     let stride = stride_along(side, axis);

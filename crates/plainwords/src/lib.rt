@@ -19,7 +19,7 @@ use sums::plus;
 
 // Every word becomes this one.
 fn fill(word: u32, words: &mut [u32])
-    ensures { new words ≡ replicate (length (old words)) word }
+    ensures { new words ≡ replicate (length words.old) word }
 {
     let mut i: usize = 0;
     while i < words.len() {
@@ -30,7 +30,7 @@ fn fill(word: u32, words: &mut [u32])
 
 // The sum of all words, modulo 2^32.
 fn total(words: &[u32]) -> u32
-    ensures { result ≡ sum_of (length (old words)) (old words) % 2 ^ 32 }
+    ensures { result ≡ sum_of (length words.now) words.now % 2 ^ 32 }
 {
     let mut sum: u32 = 0;
     let mut i: usize = 0;
@@ -43,7 +43,7 @@ fn total(words: &[u32]) -> u32
 
 // Every word becomes the sum of the words up to it, modulo 2^32.
 fn add_up(words: &mut [u32])
-    ensures { new words ≡ entries (λ i. sum_of (suc i) (old words) % 2 ^ 32) 0 (length (old words)) }
+    ensures { new words ≡ entries (λ i. sum_of (suc i) words.old % 2 ^ 32) 0 (length words.old) }
 {
     let mut sum: u32 = 0;
     let mut i: usize = 0;

@@ -8,7 +8,7 @@ ghost use Rattle.plainwords.specs.Inside.{named, Names, WholeLine, WholeRows, Wh
 fn take_line(side: usize, stride: usize, first: usize, words: &[u32], line: &mut [u32; 9])
     requires whole_line { WholeLine side stride first (length words.now) }
     requires line_value { line.old ≡ replicate 9 0 }
-    ensures { LineTaken side stride first (old words) line.new }
+    ensures { LineTaken side stride first words.now line.new }
 {
     let mut p: usize = 0;
     while p < side {
@@ -28,7 +28,7 @@ fn lay_line(
 )
     requires whole_line { WholeLine side stride first (length words.old) }
     requires names { Names from.now }
-    ensures { PlacesLaid first stride side (λ p. slice_index line.now (slice_index from.now p)) (old words) (new words) }
+    ensures { PlacesLaid first stride side (λ p. slice_index line.now (slice_index from.now p)) words.old words.new }
 {
     let mut p: usize = 0;
     while p < side {
@@ -50,7 +50,7 @@ fn shift_line(
     requires whole_block { WholeBlock side stride start (length words.old) }
     requires o_lt_stride { o < stride }
     requires names { Names from.now }
-    ensures { LinesShifted side stride (named side from.now) start o (o + 1) (old words) (new words) }
+    ensures { LinesShifted side stride (named side from.now) start o (o + 1) words.old words.new }
 {
     let mut line = [0u32; 9];
     take_line(side, stride, start + o, &words[..], &mut line);
@@ -61,7 +61,7 @@ fn shift_line(
 fn copy_eight(from: &[u32], a: usize, to: &mut [u32], b: usize)
     requires a_in_bounds { a + 8 ≤ length from.now }
     requires b_in_bounds { b + 8 ≤ length to.old }
-    ensures { Copied a b 8 (old from) (old to) (new to) }
+    ensures { Copied a b 8 from.now to.old to.new }
 {
     let mut j: usize = 0;
     while j < 8 {
@@ -74,7 +74,7 @@ fn copy_eight(from: &[u32], a: usize, to: &mut [u32], b: usize)
 fn take_rows(side: usize, stride: usize, first: usize, words: &[u32], rows: &mut [u32])
     requires whole_rows { WholeRows side stride first (length words.now) }
     requires rows_len { length rows.old ≡ 72 }
-    ensures { RowsLaid 0 8 side (λ p j. slice_index (old words) (first + p * stride + j)) (old rows) (new rows) }
+    ensures { RowsLaid 0 8 side (λ p j. slice_index words.now (first + p * stride + j)) rows.old rows.new }
 {
     let mut p: usize = 0;
     while p < side {
@@ -95,7 +95,7 @@ fn lay_rows(
     requires whole_rows { WholeRows side stride first (length words.old) }
     requires names { Names from.now }
     requires rows_len { length rows.now ≡ 72 }
-    ensures { RowsLaid first stride side (λ p j. slice_index (old rows) (slice_index from.now p * 8 + j)) (old words) (new words) }
+    ensures { RowsLaid first stride side (λ p j. slice_index rows.now (slice_index from.now p * 8 + j)) words.old words.new }
 {
     let mut p: usize = 0;
     while p < side {
@@ -117,7 +117,7 @@ fn shift_eight(
     requires whole_block { WholeBlock side stride start (length words.old) }
     requires o_bound { o + 8 ≤ stride }
     requires names { Names from.now }
-    ensures { LinesShifted side stride (named side from.now) start o (o + 8) (old words) (new words) }
+    ensures { LinesShifted side stride (named side from.now) start o (o + 8) words.old words.new }
 {
     let mut rows = [0u32; 72];
     take_rows(side, stride, start + o, &words[..], &mut rows[..]);
@@ -135,7 +135,7 @@ fn shift_eights(
     requires whole_block { WholeBlock side stride start (length words.old) }
     requires names { Names from.now }
     ensures upper_bound { result ≤ stride }
-    ensures lines_shifted { LinesShifted side stride (named side from.now) start 0 result (old words) (new words) }
+    ensures lines_shifted { LinesShifted side stride (named side from.now) start 0 result words.old words.new }
 {
     let mut o: usize = 0;
     while 8 <= stride - o {
@@ -149,7 +149,7 @@ fn shift_eights(
 fn shift_lines(side: usize, stride: usize, start: usize, from: &[usize; 8], words: &mut [u32])
     requires whole_block { WholeBlock side stride start (length words.old) }
     requires names { Names from.now }
-    ensures { LinesShifted side stride (named side from.now) start 0 stride (old words) (new words) }
+    ensures { LinesShifted side stride (named side from.now) start 0 stride words.old words.new }
 {
     let mut o = shift_eights(side, stride, start, from, words);
     while o < stride {
@@ -162,7 +162,7 @@ fn shift_lines(side: usize, stride: usize, start: usize, from: &[usize; 8], word
 fn shift_row(start: usize, from: &[usize; 8], words: &mut [u32])
     requires whole_block { WholeBlock 8 1 start (length words.old) }
     requires names { Names from.now }
-    ensures { LinesShifted 8 1 (named 8 from.now) start 0 1 (old words) (new words) }
+    ensures { LinesShifted 8 1 (named 8 from.now) start 0 1 words.old words.new }
 {
     let mut line = [0u32; 9];
     take_line(8, 1, start, &words[..], &mut line);
@@ -173,7 +173,7 @@ fn shift_row(start: usize, from: &[usize; 8], words: &mut [u32])
 fn shift_block(side: usize, stride: usize, start: usize, from: &[usize; 8], words: &mut [u32])
     requires whole_block { WholeBlock side stride start (length words.old) }
     requires names { Names from.now }
-    ensures { LinesShifted side stride (named side from.now) start 0 stride (old words) (new words) }
+    ensures { LinesShifted side stride (named side from.now) start 0 stride words.old words.new }
 {
     if side == 8 && stride == 1 {
         shift_row(start, from, words);
@@ -192,7 +192,7 @@ pub(crate) fn shift_blocks(
 )
     requires whole_blocks { WholeBlocks side stride blocks (length words.old) }
     requires names { Names from.now }
-    ensures { BlocksShifted side stride (named side from.now) blocks (old words) (new words) }
+    ensures { BlocksShifted side stride (named side from.now) blocks words.old words.new }
 {
     let size = side * stride;
     let mut block: usize = 0;

@@ -51,7 +51,7 @@ fn aim(mark: u8, sum: u32) -> u16
 fn set_aims(marks: &[u8], sums: &[u32], aims: &mut [u16])
     requires summed { Summed marks.now sums.now }
     requires aims_len { length aims.old ≡ length marks.now }
-    ensures { new aims ≡ entries (aim_in (old marks)) 0 (length (old marks)) }
+    ensures { new aims ≡ entries (aim_in marks.now) 0 (length marks.now) }
 {
     let mut i: usize = 0;
     while i < marks.len() {
@@ -67,7 +67,7 @@ fn rank_lanes(side: usize, marks: &[u8], sums: &mut [u32], aims: &mut [u16])
     requires good_marks { GoodMarks side marks.now }
     requires marks_len { length marks.now ≡ length sums.old }
     requires aims_len { length aims.old ≡ length marks.now }
-    ensures { new aims ≡ ranks side (old marks) }
+    ensures { new aims ≡ ranks side marks.now }
 {
     load_marks(marks, sums);
     prefix_words(side, sums);
@@ -80,7 +80,7 @@ fn rank_least(side: usize, marks: &[u8], sums: &mut [u32], aims: &mut [u16])
     requires marks_len { length marks.now ≡ length sums.old }
     requires aims_len { length aims.old ≡ length marks.now }
     requires marks_len_bound { length marks.now ≤ 16 }
-    ensures { new aims ≡ ranks side (old marks) }
+    ensures { new aims ≡ ranks side marks.now }
 {
     load_marks(marks, sums);
     prefix_least(side, sums);
@@ -92,7 +92,7 @@ fn write_least(side: usize, marks: &[u8], aims: &mut [u16])
     requires good_marks { GoodMarks side marks.now }
     requires aims_len { length aims.old ≡ length marks.now }
     requires marks_len_bound { length marks.now ≤ 16 }
-    ensures { new aims ≡ ranks side (old marks) }
+    ensures { new aims ≡ ranks side marks.now }
 {
     let mut sums = [0u32; 16];
     let n = marks.len();
@@ -103,7 +103,7 @@ fn write_few(side: usize, marks: &[u8], aims: &mut [u16])
     requires good_marks { GoodMarks side marks.now }
     requires aims_len { length aims.old ≡ length marks.now }
     requires marks_len_bound { length marks.now ≤ 256 }
-    ensures { new aims ≡ ranks side (old marks) }
+    ensures { new aims ≡ ranks side marks.now }
 {
     let mut sums = [0u32; 256];
     let n = marks.len();
@@ -114,7 +114,7 @@ fn write_many(side: usize, marks: &[u8], aims: &mut [u16])
     requires good_marks { GoodMarks side marks.now }
     requires aims_len { length aims.old ≡ length marks.now }
     requires marks_len_bound { length marks.now ≤ 4096 }
-    ensures { new aims ≡ ranks side (old marks) }
+    ensures { new aims ≡ ranks side marks.now }
 {
     let mut sums = [0u32; 4096];
     let n = marks.len();
@@ -124,7 +124,7 @@ fn write_many(side: usize, marks: &[u8], aims: &mut [u16])
 fn write_ranks(side: usize, marks: &[u8], aims: &mut [u16])
     requires good_marks { GoodMarks side marks.now }
     requires aims_len { length aims.old ≡ length marks.now }
-    ensures { new aims ≡ ranks side (old marks) }
+    ensures { new aims ≡ ranks side marks.now }
 {
     if marks.len() <= 16 {
         write_least(side, marks, aims);
@@ -136,7 +136,7 @@ fn write_ranks(side: usize, marks: &[u8], aims: &mut [u16])
 }
 
 fn judge_rank(side: usize, marks: &[u8], aims: usize, log: usize) -> Answer
-    ensures { result ≡ verdict (rank_cases side (old marks) aims log) (accepted_by (prefix_sum_runs side)) }
+    ensures { result ≡ verdict (rank_cases side marks.now aims log) (accepted_by (prefix_sum_runs side)) }
 {
     let runs = prefix_sum_runs(side);
     let good = refusing(marks_case(marks), accepted_by(runs));

@@ -76,7 +76,7 @@ fn bad(trip: Trip, side: usize, c: Judged) -> bool
 fn search_aims(trip: Trip, side: usize, marks: &[u8], aims: &[u16]) -> Case
     requires marks_len { (length marks.now ≡ length aims.now) × (length marks.now ≤ 4096) }
     requires by_index { (i : ℕ) → i < length marks.now → get_or marks.now i 0 < 2 }
-    ensures { result ≡ aims_case trip side (old marks) (old aims) }
+    ensures { result ≡ aims_case trip side marks.now aims.now }
 {
     let n = marks.len();
     let mut rank: usize = 0;
@@ -117,7 +117,7 @@ fn either(a: bool, b: bool) -> bool
 fn all_ranked(marks: &[u8], aims: &[u16]) -> bool
     requires marks_len { (length marks.now ≡ length aims.now) × (length marks.now ≤ 4096) }
     requires by_index { (i : ℕ) → i < length marks.now → get_or marks.now i 0 < 2 }
-    ensures { NoneBad Concentrate 0 (old marks) (old aims) result }
+    ensures { NoneBad Concentrate 0 marks.now aims.now result }
 {
     let n = marks.len();
     let mut off = false;
@@ -134,7 +134,7 @@ fn all_ranked(marks: &[u8], aims: &[u16]) -> bool
 // The first cells, so many, are marked.
 fn all_marked(count: usize, marks: &[u8]) -> bool
     requires { count ≤ length marks.now }
-    ensures { AllMarked count (old marks) result }
+    ensures { AllMarked count marks.now result }
 {
     let mut off = false;
     let mut i: usize = 0;
@@ -148,7 +148,7 @@ fn all_marked(count: usize, marks: &[u8]) -> bool
 // The aims of the first cells, so many, rise.
 fn all_rising(count: usize, aims: &[u16]) -> bool
     requires { count ≤ length aims.now }
-    ensures { AllRising count (old aims) result }
+    ensures { AllRising count aims.now result }
 {
     let mut off = false;
     let mut i: usize = 1;
@@ -162,7 +162,7 @@ fn all_rising(count: usize, aims: &[u16]) -> bool
 // The aim of the last of so many cells is on the board; where there is none, so is it.
 fn last_inside(side: usize, count: usize, aims: &[u16]) -> bool
     requires { count ≤ length aims.now }
-    ensures { LastInside side count (old aims) result }
+    ensures { LastInside side count aims.now result }
 {
     if count == 0 {
         return true;
@@ -174,7 +174,7 @@ fn last_inside(side: usize, count: usize, aims: &[u16]) -> bool
 fn all_aimed(side: usize, marks: &[u8], aims: &[u16]) -> bool
     requires marks_len { (length marks.now ≡ length aims.now) × (length marks.now ≤ 4096) }
     requires by_index { (i : ℕ) → i < length marks.now → get_or marks.now i 0 < 2 }
-    ensures { NoneBad Distribute side (old marks) (old aims) result }
+    ensures { NoneBad Distribute side marks.now aims.now result }
 {
     let count = count_marks(marks);
     let rise = both(all_rising(count, aims), last_inside(side, count, aims));
@@ -184,7 +184,7 @@ fn all_aimed(side: usize, marks: &[u8], aims: &[u16]) -> bool
 fn all_good(trip: Trip, side: usize, marks: &[u8], aims: &[u16]) -> bool
     requires marks_len { (length marks.now ≡ length aims.now) × (length marks.now ≤ 4096) }
     requires by_index { (i : ℕ) → i < length marks.now → get_or marks.now i 0 < 2 }
-    ensures { NoneBad trip side (old marks) (old aims) result }
+    ensures { NoneBad trip side marks.now aims.now result }
 {
     match trip {
         Trip::Concentrate => all_ranked(marks, aims),
@@ -196,7 +196,7 @@ fn all_good(trip: Trip, side: usize, marks: &[u8], aims: &[u16]) -> bool
 pub(crate) fn aims_case(trip: Trip, side: usize, marks: &[u8], aims: &[u16]) -> Case
     requires marks_len { (length marks.now ≡ length aims.now) × (length marks.now ≤ 4096) }
     requires by_index { (i : ℕ) → i < length marks.now → get_or marks.now i 0 < 2 }
-    ensures { result ≡ aims_case trip side (old marks) (old aims) }
+    ensures { result ≡ aims_case trip side marks.now aims.now }
 {
     if all_good(trip, side, marks, aims) {
         return case_of(false, 6, marks.len());
@@ -238,7 +238,7 @@ pub(crate) fn early_full(
     codes: usize,
     moved: usize,
 ) -> Answer
-    ensures { result ≡ verdict (early_full trip side sizes (old marks) aims codes moved) (accepted_by (runs_of trip side)) }
+    ensures { result ≡ verdict (early_full trip side sizes marks.now aims codes moved) (accepted_by (runs_of trip side)) }
 {
     let runs = runs_of(trip, side);
     let good = refusing(marks_case(marks), accepted_by(runs));
@@ -254,7 +254,7 @@ pub(crate) fn early_cut(
     aims: usize,
     otherwise: Answer,
 ) -> Answer
-    ensures { result ≡ verdict (early_cut side sizes (old marks) aims) otherwise }
+    ensures { result ≡ verdict (early_cut side sizes marks.now aims) otherwise }
 {
     let good = refusing(marks_case(marks), otherwise);
     refusing_lanes(side, marks.len(), aims, sizes, good)

@@ -33,7 +33,7 @@ pub fn judge_full(
     codes: usize,
     moved: usize,
 ) -> Answer
-    ensures { result ≡ verdict (full_cases trip side sizes (old marks) (old aims) codes moved) (accepted_by (runs_of trip side)) }
+    ensures { result ≡ verdict (full_cases trip side sizes marks.now aims.now codes moved) (accepted_by (runs_of trip side)) }
 {
     let early = early_full(trip, side, sizes, marks, aims.len(), codes, moved);
     if early.number != 0 {
@@ -51,7 +51,7 @@ pub fn judge_cut(
     marks: &[u8],
     aims: &[u16],
 ) -> Answer
-    ensures { result ≡ verdict (cut_cases trip side cut sizes (old marks) (old aims)) (accepted_by (first_runs cut (runs_of trip side))) }
+    ensures { result ≡ verdict (cut_cases trip side cut sizes marks.now aims.now) (accepted_by (first_runs cut (runs_of trip side))) }
 {
     let runs = first_runs(runs_of(trip, side), cut);
     let early = early_cut(side, sizes, marks, aims.len(), accepted_by(runs));
@@ -73,7 +73,7 @@ pub fn judge_unlogged(
     electronic: usize,
     swaps: usize,
 ) -> Answer
-    ensures { result ≡ verdict (without_logs (full_cases trip side sizes (old marks) (old aims) 0 0)) (accepted_of electronic swaps) }
+    ensures { result ≡ verdict (without_logs (full_cases trip side sizes marks.now aims.now 0 0)) (accepted_of electronic swaps) }
 {
     let early = early_cut(side, sizes, marks, aims.len(), accepted(electronic, swaps));
     if early.number != 0 {

@@ -19,7 +19,7 @@ use ranking::rank;
 
 // A line of a word and a number.
 fn put_numbered(out: &mut [u8], word: &[u8], number: usize) -> usize
-    ensures { Written (old out) 0 (line (old word ∷ decimal number ∷ [])) result (new out) }
+    ensures { Written out.old 0 (line (old word ∷ decimal number ∷ [])) result out.new }
 {
     let end = put(out, 0, word);
     let second = put_byte(out, end, 9);
@@ -28,7 +28,7 @@ fn put_numbered(out: &mut [u8], word: &[u8], number: usize) -> usize
 
 // The line of a replay.
 fn put_replay(out: &mut [u8; 64], replayed: Replayed) -> usize
-    ensures { OutFilled (old out) (replay_line replayed) result (new out) }
+    ensures { OutFilled out.old (replay_line replayed) result out.new }
 {
     match replayed {
         Replayed::Agrees => put(out, 0, b"agrees\n"),
@@ -48,7 +48,7 @@ fn replay_ranked(
 ) -> Replayed
     requires good_marks { GoodMarks side marks.now }
     requires marks_len { length marks.now ≡ length aims.old }
-    ensures { result ≡ replay_of side (old words) (old marks) (ranks side (old marks)) (old capture) }
+    ensures { result ≡ replay_of side words.now marks.now (ranks side marks.now) capture.now }
 {
     let mut codes = [0u8; 51];
     rank(side, marks, aims, &mut codes);
@@ -58,7 +58,7 @@ fn replay_ranked(
 // The same with aims of its own.
 fn replay_lanes(side: usize, words: &[u32], marks: &[u8], capture: &[u8]) -> Replayed
     requires { GoodMarks side marks.now }
-    ensures { result ≡ replay_of side (old words) (old marks) (ranks side (old marks)) (old capture) }
+    ensures { result ≡ replay_of side words.now marks.now (ranks side marks.now) capture.now }
 {
     let n = marks.len();
     let mut aims = [0u16; 4096];
@@ -67,7 +67,7 @@ fn replay_lanes(side: usize, words: &[u32], marks: &[u8], capture: &[u8]) -> Rep
 
 // Reads a job, and replays a capture from its lanes: a text that is no job is refused.
 fn replay_job(job: &[u8], capture: &[u8]) -> Replayed
-    ensures { result ≡ replay_from (text_verdict (old job)) (old capture) }
+    ensures { result ≡ replay_from (text_verdict job.now) capture.now }
 {
     let mut words = [0u32; 4096];
     let mut marks = [0u8; 4096];
@@ -82,7 +82,7 @@ fn replay_job(job: &[u8], capture: &[u8]) -> Replayed
 
 // The line that answers a job and the capture of its run.
 pub fn run(job: &[u8], capture: &[u8], out: &mut [u8; 64]) -> usize
-    ensures { OutFilled (old out) (replay_text (old job) (old capture)) result (new out) }
+    ensures { OutFilled out.old (replay_text job.now capture.now) result out.new }
 {
     put_replay(out, replay_job(job, capture))
 }

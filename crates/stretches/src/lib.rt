@@ -37,7 +37,7 @@ fn judge_group(side: usize, group: usize, length: usize) -> Answer
 
 // The caller's own stretch of words of a group, or an empty one where that is refused.
 pub fn group_words(side: usize, group: usize, words: &[u32]) -> &[u32]
-    ensures { result.now ≡ group_words side group (old words) }
+    ensures { result.now ≡ group_words side group words.now }
 {
     let answer = judge_group(side, group, words.len());
     if answer.number != 0 {
@@ -50,7 +50,7 @@ pub fn group_words(side: usize, group: usize, words: &[u32]) -> &[u32]
 
 // The number and the place of the same.
 pub fn group_words_answer(side: usize, group: usize, words: &[u32]) -> Answer
-    ensures { result ≡ group_answer side group (length (old words)) }
+    ensures { result ≡ group_answer side group (length words.now) }
 {
     judge_group(side, group, words.len())
 }

@@ -7,16 +7,16 @@ use Rattle.laws.proofs.Rewriting.{rewriting_start, rewriting_store, rewriting_en
 use Rattle.clearing.proofs.zero_marks.Goals as goal
 
 pub loop-i-init : goal.loop-i-init
-loop-i-init c = (omega arith, rewriting_start (λ (k : ℕ). 0) 0 c.args.spare-marks.now)
+loop-i-init c = (omega arith, rewriting_start (λ (k : ℕ). 0) 0 c.args.spare_marks.now)
 
 pub loop-i-smaller : goal.loop-i-smaller
 loop-i-smaller c = simp length-set (omega arith)
 
 pub loop-i-preserved : goal.loop-i-preserved
-loop-i-preserved c = (simp length-set (omega arith), rewriting_store (λ (k : ℕ). 0) 0 c.args.spare-marks.now 0 c.loop-i-test.true refl c.loop-i.invariant.1)
+loop-i-preserved c = (simp length-set (omega arith), rewriting_store (λ (k : ℕ). 0) 0 c.args.spare_marks.now 0 c.loop-i-test.true refl c.loop-i.invariant.1)
 
 pub shape_of-spare_marks : goal.shape_of-spare_marks
 shape_of-spare_marks c = c.loop-i.invariant.1.long
 
 pub returns : goal.returns
-returns c = rewriting_end (λ (k : ℕ). 0) 0 c.args.spare-marks.now c.loop-i-test.false c.loop-i.invariant.1
+returns c = rewriting_end (λ (k : ℕ). 0) 0 c.args.spare_marks.now c.loop-i-test.false c.loop-i.invariant.1

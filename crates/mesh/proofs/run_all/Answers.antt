@@ -17,32 +17,32 @@ returns-then-not-are_lanes c = ran-none (failed c.are_lanes.ensures c.if-not-are
 pub rule_of-t-requires : goal.rule_of-t-requires
 rule_of-t-requires c = let a = c.args in
     let e = passed c.are_lanes.ensures c.if-not-are_lanes.false in
-    let k = lanes_known a.leg.side a.words.now a.marks.now a.aims.now a.spare-words.now a.spare-marks.now a.spare-aims.now e in
+    let k = lanes_known a.leg.side a.words.now a.marks.now a.aims.now a.spare_words.now a.spare_marks.now a.spare_aims.now e in
     let s = side_known a.leg.side k.side in
     (s.least, s.most)
 
 pub share-share-requires : goal.share-share-requires
 share-share-requires c = let a = c.args in
     let e = passed c.are_lanes.ensures c.if-not-are_lanes.false in
-    let k = lanes_known a.leg.side a.words.now a.marks.now a.aims.now a.spare-words.now a.spare-marks.now a.spare-aims.now e in
+    let k = lanes_known a.leg.side a.words.now a.marks.now a.aims.now a.spare_words.now a.spare_marks.now a.spare_aims.now e in
     rw c.rule_of-t.ensures (period_few (side_known a.leg.side k.side) a.leg.low a.leg.way)
 
 pub overflow_mul-size : goal.overflow_mul-size
 overflow_mul-size c = let a = c.args in
     let e = passed c.are_lanes.ensures c.if-not-are_lanes.false in
-    let k = lanes_known a.leg.side a.words.now a.marks.now a.aims.now a.spare-words.now a.spare-marks.now a.spare-aims.now e in
+    let k = lanes_known a.leg.side a.words.now a.marks.now a.aims.now a.spare_words.now a.spare_marks.now a.spare_aims.now e in
     rw c.rule_of-t.ensures (omega (arith, (side_known a.leg.side k.side).groups_few))
 
 pub moving_groups-groups-requires : goal.moving_groups-groups-requires
 moving_groups-groups-requires c = let a = c.args in
     let e = passed c.are_lanes.ensures c.if-not-are_lanes.false in
-    let k = lanes_known a.leg.side a.words.now a.marks.now a.aims.now a.spare-words.now a.spare-marks.now a.spare-aims.now e in
+    let k = lanes_known a.leg.side a.words.now a.marks.now a.aims.now a.spare_words.now a.spare_marks.now a.spare_aims.now e in
     rw c.rule_of-t.ensures (side_known a.leg.side k.side).most
 
 pub loop-g-init : goal.loop-g-init
 loop-g-init c = let a = c.args in
     let e = passed c.are_lanes.ensures c.if-not-are_lanes.false in
-    let k = lanes_known a.leg.side a.words.now a.marks.now a.aims.now a.spare-words.now a.spare-marks.now a.spare-aims.now e in
+    let k = lanes_known a.leg.side a.words.now a.marks.now a.aims.now a.spare_words.now a.spare_marks.now a.spare_aims.now e in
     let z = ruled a.leg k.side c.rule_of-t.ensures c.share-share.ensures in
     (refl, c.moving_groups-groups.ensures, z.0, z.1, rw c.rule_of-t.ensures k.sized, ranged_start _ _ refl (no_counts 8), rw c.rule_of-t.ensures k.sized)
 

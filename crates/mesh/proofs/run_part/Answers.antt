@@ -128,15 +128,15 @@ shape_of-aims c =
 
 pub shape_of-spare_words : goal.shape_of-spare_words
 shape_of-spare_words c =
-    let a = c.args in let g = c.run_group in same_len_mid {X = ℕ} a.base (a.base + groups a.t.side - a.base) a.spare-words.now g.new.1.1.1.1.1.1.0 g.auto.1.1.1.1.1.1.0
+    let a = c.args in let g = c.run_group in same_len_mid {X = ℕ} a.base (a.base + groups a.t.side - a.base) a.spare_words.now g.new.1.1.1.1.1.1.0 g.auto.1.1.1.1.1.1.0
 
 pub shape_of-spare_marks : goal.shape_of-spare_marks
 shape_of-spare_marks c =
-    let a = c.args in let g = c.run_group in same_len_mid {X = ℕ} a.base (a.base + groups a.t.side - a.base) a.spare-marks.now g.new.1.1.1.1.1.1.1.0 g.auto.1.1.1.1.1.1.1.0
+    let a = c.args in let g = c.run_group in same_len_mid {X = ℕ} a.base (a.base + groups a.t.side - a.base) a.spare_marks.now g.new.1.1.1.1.1.1.1.0 g.auto.1.1.1.1.1.1.1.0
 
 pub shape_of-spare_aims : goal.shape_of-spare_aims
 shape_of-spare_aims c =
-    let a = c.args in let g = c.run_group in same_len_mid {X = ℕ} a.base (a.base + groups a.t.side - a.base) a.spare-aims.now g.new.1.1.1.1.1.1.1.1.0 g.auto.1.1.1.1.1.1.1.1.0
+    let a = c.args in let g = c.run_group in same_len_mid {X = ℕ} a.base (a.base + groups a.t.side - a.base) a.spare_aims.now g.new.1.1.1.1.1.1.1.1.0 g.auto.1.1.1.1.1.1.1.1.0
 
 pub returns : goal.returns
 returns c =

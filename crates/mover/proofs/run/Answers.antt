@@ -14,7 +14,7 @@ pub loop-q-init : goal.loop-q-init
 loop-q-init c =
     let a = c.args in
     let e = passed c.are_lanes.ensures c.if-not-are_lanes.false in
-    let k = lanes_known a.side a.words.now a.marks.now a.aims.now a.spare-words.now a.spare-marks.now a.spare-aims.now e in
+    let k = lanes_known a.side a.words.now a.marks.now a.aims.now a.spare_words.now a.spare_marks.now a.spare_aims.now e in
     (k, k.sized, refl, omega (arith, c.ranges), running-start _ _ _ _ _ _)
 
 pub offset_bounds-runs-q : goal.offset_bounds-runs-q

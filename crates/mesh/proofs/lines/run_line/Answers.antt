@@ -55,11 +55,11 @@ shape_of-spare_aims-then-line_goes c = c.lay_slots-then-line_goes.auto.1.1.1.1.1
 pub returns-then-line_goes : goal.returns-then-line_goes
 returns-then-line_goes c =
     let a = c.args in
-    let still = still_told a.t a.start a.words.now a.marks.now a.aims.now a.spare-words.now a.spare-marks.now a.spare-aims.now in
+    let still = still_told a.t a.start a.words.now a.marks.now a.aims.now a.spare_words.now a.spare_marks.now a.spare_aims.now in
     ran_moved c.take_slots-fronts.result c.take_slots-spares.result c.requires.ruled.1.few (sym still ∙ not-true _ (sym c.line_goes.ensures ∙ c.if-line_goes.true))
     c.take_slots-fronts.ensures c.take_slots-spares.ensures c.put_line-line.ensures c.lay_slots.ensures c.lay_slots-then-line_goes.ensures refl refl
 
 pub returns-else-line_goes : goal.returns-else-line_goes
 returns-else-line_goes c = let a = c.args in
-    let still = still_told a.t a.start a.words.now a.marks.now a.aims.now a.spare-words.now a.spare-marks.now a.spare-aims.now in
+    let still = still_told a.t a.start a.words.now a.marks.now a.aims.now a.spare_words.now a.spare_marks.now a.spare_aims.now in
     ran_still (sym still ∙ not-false _ (sym c.line_goes.ensures ∙ c.if-line_goes.false)) refl

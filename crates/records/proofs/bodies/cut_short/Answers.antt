@@ -12,7 +12,7 @@ returns-then-answer-ne0 c = entry_refused c.judge_cut-answer.ensures c.if-answer
 pub perform-requires : goal.perform-requires
 perform-requires c =
     let a = c.args in
-    let sizes = sizes_of a.words.now a.spare-words.now a.spare-marks.now a.spare-aims.now in
+    let sizes = sizes_of a.words.now a.spare_words.now a.spare_marks.now a.spare_aims.now in
     let k = cut_known a.trip a.side a.cut sizes a.marks.now a.aims.now c.judge_cut-answer.ensures c.if-answer-ne0.false in
     (k.fits.side, (fitting_sized k.fits, (k.inside, k.good)))
 

@@ -16,7 +16,7 @@ returns-then-answer-ne0 c = entry_refused c.judge_full-answer.ensures c.if-answe
 pub perform-requires : goal.perform-requires
 perform-requires c =
     let a = c.args in
-    let sizes = sizes_of a.words.now a.spare-words.now a.spare-marks.now a.spare-aims.now in
+    let sizes = sizes_of a.words.now a.spare_words.now a.spare_marks.now a.spare_aims.now in
     let e = c.judge_full-answer.ensures in
     let z = c.if-answer-ne0.false in
     let k = full_known a.trip a.side sizes a.marks.now a.aims.now (length a.codes.now) (length a.moved.now) e z in
@@ -56,7 +56,7 @@ shape_of-moved c =
 pub returns : goal.returns
 returns c =
     let a = c.args in
-    let sizes = sizes_of a.words.now a.spare-words.now a.spare-marks.now a.spare-aims.now in
+    let sizes = sizes_of a.words.now a.spare_words.now a.spare_marks.now a.spare_aims.now in
     let e = c.judge_full-answer.ensures in
     let z = c.if-answer-ne0.false in
     let k = full_known a.trip a.side sizes a.marks.now a.aims.now (length a.codes.now) (length a.moved.now) e z in
