@@ -19,10 +19,10 @@ loop-q-preserved c =
     let rs = c.args.runs in (
       search rules,
       counting_next electronic_of (2 ^ 64) rs (λ r. electronic_in r.step r.times) (λ r rest. refl) l.q no_run l.electronic _ (search rules)
-          (c.wrapping_add_usize-electronic.ensures ∙ ap (λ (n : ℕ). (l.electronic + n) % 2 ^ 64) c.electronic_in.ensures)
+          (c.wrapping_add_usize-electronic.ensures.value ∙ ap (λ (n : ℕ). (l.electronic + n) % 2 ^ 64) c.electronic_in.ensures)
           l.invariant.1,
       counting_next swaps_of (2 ^ 64) rs (λ r. swaps_in r.step r.times) (λ r rest. refl) l.q no_run l.swaps _ (search rules)
-          (c.wrapping_add_usize-swaps.ensures ∙ ap (λ (n : ℕ). (l.swaps + n) % 2 ^ 64) c.swaps_in.ensures)
+          (c.wrapping_add_usize-swaps.ensures.value ∙ ap (λ (n : ℕ). (l.swaps + n) % 2 ^ 64) c.swaps_in.ensures)
           l.invariant.2,
     )
 
