@@ -16,20 +16,20 @@ pub returns-then-not-is_cell : goal.returns-then-not-is_cell
 returns-then-not-is_cell c = rw (failed c.is_cell.ensures c.if-not-is_cell.true) c.no_runs.ensures
 
 pub overflow_mul-groups : goal.overflow_mul-groups
-overflow_mul-groups c = omega (arith, (known c.is_cell.ensures c.if-not-is_cell.false).side)
+overflow_mul-groups c = omega (arith, (known {side = c.args.side} {cell = c.args.cell} c.is_cell.ensures c.if-not-is_cell.false).side)
 
 pub nonzero_rem-cell : goal.nonzero_rem-cell
-nonzero_rem-cell c = (known c.is_cell.ensures c.if-not-is_cell.false).side.groups-pos
+nonzero_rem-cell c = (known {side = c.args.side} {cell = c.args.cell} c.is_cell.ensures c.if-not-is_cell.false).side.groups-pos
 
 pub spread_runs-a-requires : goal.spread_runs-a-requires
-spread_runs-a-requires c = ((known c.is_cell.ensures c.if-not-is_cell.false).side.least, place_in (known c.is_cell.ensures c.if-not-is_cell.false).side.least c.args.cell)
+spread_runs-a-requires c = ((known {side = c.args.side} {cell = c.args.cell} c.is_cell.ensures c.if-not-is_cell.false).side.least, place_in (known c.is_cell.ensures c.if-not-is_cell.false).side.least c.args.cell)
 
 pub nonzero_div-cell : goal.nonzero_div-cell
-nonzero_div-cell c = (known c.is_cell.ensures c.if-not-is_cell.false).side.groups-pos
+nonzero_div-cell c = (known {side = c.args.side} {cell = c.args.cell} c.is_cell.ensures c.if-not-is_cell.false).side.groups-pos
 
 pub spread_runs-b-requires : goal.spread_runs-b-requires
 spread_runs-b-requires c =
-    ((known c.is_cell.ensures c.if-not-is_cell.false).side.least, group_in (known c.is_cell.ensures c.if-not-is_cell.false).side.least c.args.cell (known c.is_cell.ensures c.if-not-is_cell.false).inside)
+    ((known {side = c.args.side} {cell = c.args.cell} c.is_cell.ensures c.if-not-is_cell.false).side.least, group_in (known c.is_cell.ensures c.if-not-is_cell.false).side.least c.args.cell (known c.is_cell.ensures c.if-not-is_cell.false).inside)
 
 pub returns : goal.returns
 returns c =

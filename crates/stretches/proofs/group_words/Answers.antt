@@ -32,8 +32,8 @@ offset_bounds-words-start c =
     let a = c.args in
     omega (arith, group_inside a.side a.group (length a.words.now) c.judge_group-answer.ensures c.if-answer-ne0.false)
 
-pub slice_bounds-result-end : goal.slice_bounds-result-end
-slice_bounds-result-end c =
+pub slice_bounds-result-end-2 : goal.slice_bounds-result-end-2
+slice_bounds-result-end-2 c =
     let a = c.args in
     omega (arith, group_inside a.side a.group (length a.words.now) c.judge_group-answer.ensures c.if-answer-ne0.false)
 
