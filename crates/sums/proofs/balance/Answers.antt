@@ -1,5 +1,5 @@
 -- `sums::balance` meets its contract: cell by cell, by `Renewed`, where all are as long.
-use Rattle.std.proofs.Common.{◌-◌, get_or, ap, ◌∙◌, arith}
+use Rattle.std.proofs.Common.{get_or, ap, ◌∙◌, arith}
 use Rattle.sums.specs.Sums.{minus}
 use Rattle.sums.proofs.Renewing.{renewed_start, renewed_next}
 use Rattle.sums.proofs.Balancing.{only_less, only_more, balanced-end}

@@ -1,5 +1,5 @@
 -- `sums::combine` meets its contract: cell by cell, by `Renewed`.
-use Rattle.std.proofs.Common.{◌-◌, arith, eq-eqb, ne_eqb}
+use Rattle.std.proofs.Common.{arith, eq-eqb, ne_eqb}
 use Rattle.sums.proofs.Renewing.{renewed_start, renewed_next, renewed_end}
 use Rattle.sums.proofs.combine.Goals as goal
 
