@@ -1,5 +1,4 @@
 -- `clearing::keep_aims` meets its contract: cell after cell, by its mark.
-use Prim.Native.Nat.{◌-◌}
 use mathlib.Core.Path.{refl}
 use native.Mathlib.Omega.{arith}
 use Rattle.laws.proofs.Rewriting.{rewriting_start}
