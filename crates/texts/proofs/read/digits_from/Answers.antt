@@ -1,7 +1,5 @@
 -- `texts::read::digits_from` meets its contract: digit after digit, as long as the number is small enough.
 use borrow.Author.Rules.{rules}
-use native.Mathlib.Omega.{arith}
-use Prim.Native.Nat.{◌-◌}
 use mathlib.Core.Path.{refl}
 use Rattle.texts.proofs.Reading.{digits_low, digits_high, digits-over, digits_next, digits-end}
 use Rattle.texts.proofs.read.digits_from.Goals as goal
@@ -14,9 +12,6 @@ returns-then-b-lt48 c = search digits_low
 
 pub returns-then-b-gt57 : goal.returns-then-b-gt57
 returns-then-b-gt57 c = search digits_high
-
-pub overflow_cast-n : goal.overflow_cast-n
-overflow_cast-n c = omega (arith, c.shared_slice_known-1.given c.loop-i.i)
 
 pub returns-then-n-gt4294967295 : goal.returns-then-n-gt4294967295
 returns-then-n-gt4294967295 c = search digits-over

@@ -1,5 +1,4 @@
 -- `texts::read::same` meets its contract: byte after byte, of two texts of one length.
-use Prim.Native.Nat.{◌-◌}
 use Rattle.texts.proofs.Reading.{same_long, alike_next, alike_differ, alike_end}
 use Rattle.texts.proofs.read.same.Goals as goal
 
