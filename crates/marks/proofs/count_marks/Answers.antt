@@ -10,7 +10,7 @@ loop-i-init c = (omega arith, refl)
 pub loop-i-preserved : goal.loop-i-preserved
 loop-i-preserved c =
     let m = c.args.marks.now in
-    (search rules, count_next m c.loop-i.i c.loop-i.invariant.1 (rw c.wide.ensures at c.wrapping_add_u16-count.ensures))
+    (search rules, count_next m c.loop-i.i c.loop-i.invariant.1 (rw c.wide.ensures at c.wrapping_add_u16-count.ensures.value))
 
 pub returns : goal.returns
 returns c =
