@@ -1,6 +1,5 @@
 -- `printing::put` meets its contract: byte after byte.
 use Rattle.printing.proofs.Putting.{put_begin, put_next, put_end}
-use Prim.Native.Nat.{◌-◌}
 use Rattle.printing.proofs.put.Goals as goal
 
 pub loop-i-init : goal.loop-i-init
