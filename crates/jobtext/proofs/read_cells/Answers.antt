@@ -1,7 +1,6 @@
 -- `jobtext::read_cells` meets its contract: line after line, each a marked cell.
 use Rattle.jobtext.proofs.Cells.{square_fits, cells_fit, cell_inside, cell_scaled, cell_counted, cells_begin, cells-end, cells_unended, cells_malformed, cells_next}
 use Rattle.texts.proofs.Reading.{part_length}
-use Prim.Native.Nat.{◌-◌}
 use borrow.Author.Rules.{rules}
 use Rattle.jobtext.proofs.read_cells.Goals as goal
 
