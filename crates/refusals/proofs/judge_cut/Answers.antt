@@ -32,7 +32,7 @@ aims_case-aimed-requires c =
     let listed = c.first_runs-runs.ensures ∙ ap (first_runs a.cut) c.runs_of.ensures in
     let e = c.early_cut-early.ensures ∙ ap (verdict early) (c.accepted_by.ensures ∙ ap accepted_by listed) in
     let h = cut_halfway a.side a.sizes marks aims (none_yet early [] end end e refl c.if-early-ne0.false) in
-    (h.lengths, h.good)
+    record { marks_len = h.lengths; by_index = h.good }
 
 pub returns : goal.returns
 returns c =

@@ -28,7 +28,7 @@ aims_case-requires c =
     let end = accepted_by (runs_of a.trip a.side) in
     let none = none_yet early [] end end c.early_full-early.ensures refl c.if-early-ne0.false in
     let h = full_halfway a.trip a.side a.sizes marks aims a.codes a.moved none in
-    (h.lengths, h.good)
+    record { marks_len = h.lengths; by_index = h.good }
 
 pub returns : goal.returns
 returns c =

@@ -28,7 +28,7 @@ aims_case-requires c =
     let end = accepted a.electronic a.swaps in
     let e = c.early_cut-early.ensures ∙ ap (verdict early) c.accepted.ensures in
     let h = cut_halfway a.side a.sizes marks aims (none_yet early [] end end e refl c.if-early-ne0.false) in
-    (h.lengths, h.good)
+    record { marks_len = h.lengths; by_index = h.good }
 
 pub returns : goal.returns
 returns c =
