@@ -1,5 +1,5 @@
 -- What private functions' contracts cite; the public contracts are read without it.
-use Rattle.std.specs.Prelude.{ℕ, suc, min, ◌+◌, ◌≤◌, ◌<◌, ◌≡◌, Bool, cond, List, eqb, ltb, length, get_or, set}
+use Rattle.std.specs.Prelude.{ℕ, suc, min, ◌+◌, ◌≤◌, ◌<◌, ◌≡◌, cond, List, eqb, ltb, length, get_or, set}
 use Rattle.laws.specs.Lent.{Slice, Lent, old, new}
 use Rattle.laws.specs.Sums.{sum}
 use Rattle.array.specs.Cells.{groups, cells, cell, partner}

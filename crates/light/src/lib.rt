@@ -42,9 +42,9 @@ fn wide(x: u16) -> usize
 
 // The partner of cell p of group g: by the group's part of the link list, where it has every cell, and else cell g of group p.
 fn across(side: usize, list: &[u16], g: usize, p: usize) -> usize
-    requires side_value { is_side side ≡ true }
+    requires a_side { is_side side ≡ true }
     requires listed { Listed side g list.now }
-    requires g_bound { (g < groups side) × (p < groups side) }
+    requires in_range { (g < groups side) × (p < groups side) }
     ensures { result ≡ partner side (cell side g p) }
 {
     let groups = side * side;
@@ -84,9 +84,9 @@ fn exchange_aims(j: usize, p: usize, aims: &mut [u16])
 
 // The cells of group g trade with their partners, where these come later. They are those past place g.
 fn trade_places(side: usize, list: &[u16], g: usize, lane: &mut [u32])
-    requires lane_value { is_board side (length lane.old) ≡ true }
+    requires board { is_board side (length lane.old) ≡ true }
     requires listed { Listed side g list.now }
-    requires g_bound { g < groups side }
+    requires in_range { g < groups side }
     ensures { GroupTurned side g lane.old lane.new }
 {
     let groups = side * side;
@@ -100,8 +100,8 @@ fn trade_places(side: usize, list: &[u16], g: usize, lane: &mut [u32])
 
 // The turn of group g; side 8 goes by the board's link list, of which a group needs its own part.
 fn trade_group(side: usize, g: usize, lane: &mut [u32])
-    requires lane_value { is_board side (length lane.old) ≡ true }
-    requires g_bound { g < groups side }
+    requires board { is_board side (length lane.old) ≡ true }
+    requires in_range { g < groups side }
     ensures { GroupTurned side g lane.old lane.new }
 {
     if side == 8 {
@@ -163,9 +163,9 @@ fn trade_slot_places(
     marks: &mut [u8],
     aims: &mut [u16],
 ) -> usize
-    requires aims_value { on_board side (lent words marks aims) ≡ true }
+    requires board { on_board side (lent words marks aims) ≡ true }
     requires listed { Listed side g list.now }
-    requires g_bound { g < groups side }
+    requires in_range { g < groups side }
     ensures { TurnedSlots side g words marks aims result }
 {
     let groups = side * side;
@@ -187,8 +187,8 @@ fn trade_group_slots(
     marks: &mut [u8],
     aims: &mut [u16],
 ) -> usize
-    requires aims_value { on_board side (lent words marks aims) ≡ true }
-    requires g_bound { g < groups side }
+    requires board { on_board side (lent words marks aims) ≡ true }
+    requires in_range { g < groups side }
     ensures { TurnedSlots side g words marks aims result }
 {
     if side == 8 {

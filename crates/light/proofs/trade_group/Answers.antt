@@ -4,4 +4,8 @@ use Rattle.light.proofs.trade_group.Goals as goal
 
 pub trade_places-requires : goal.trade_places-requires
 trade_places-requires c =
-    (c.requires.lane_value, (listed_links c.args.side c.args.g _ c.if-side-eq8.true c.requires.g_bound c.links_of-list.ensures, c.requires.g_bound))
+    record {
+      board = c.requires.board;
+      listed = listed_links c.args.side c.args.g _ c.if-side-eq8.true c.requires.in_range c.links_of-list.ensures;
+      in_range = c.requires.in_range;
+    }

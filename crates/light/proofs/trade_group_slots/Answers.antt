@@ -4,4 +4,8 @@ use Rattle.light.proofs.trade_group_slots.Goals as goal
 
 pub trade_slot_places-requires : goal.trade_slot_places-requires
 trade_slot_places-requires c =
-    (c.requires.aims_value, (listed_links c.args.side c.args.g _ c.if-side-eq8.true c.requires.g_bound c.links_of-list.ensures, c.requires.g_bound))
+    record {
+      board = c.requires.board;
+      listed = listed_links c.args.side c.args.g _ c.if-side-eq8.true c.requires.in_range c.links_of-list.ensures;
+      in_range = c.requires.in_range;
+    }

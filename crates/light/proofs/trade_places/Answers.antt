@@ -1,5 +1,4 @@
 -- `light::trade_places` meets its contract: turn after turn each cell past place g trades with its partner.
-use Prim.Native.Nat.{◌-◌}
 use native.Mathlib.Omega.{arith}
 use lib.ListN.{length}
 use Rattle.light.proofs.Groups.{trades_long, trades_ends, trades_other, trades_later, ends, trades_start, trades_turn, trades_end}
@@ -8,19 +7,19 @@ use Rattle.light.proofs.trade_places.Goals as goal
 
 pub overflow_mul-groups : goal.overflow_mul-groups
 overflow_mul-groups c =
-    omega (arith, ends c.args.side c.args.g c.args.g (board_side c.args.side (length c.args.lane.now) c.requires.lane_value) (c.requires.g_bound, c.requires.g_bound))
+    omega (arith, ends c.args.side c.args.g c.args.g (board_side c.args.side (length c.args.lane.now) c.requires.board) (c.requires.in_range, c.requires.in_range))
 
 pub overflow_add-p : goal.overflow_add-p
 overflow_add-p c =
-    omega (arith, ends c.args.side c.args.g c.args.g (board_side c.args.side (length c.args.lane.now) c.requires.lane_value) (c.requires.g_bound, c.requires.g_bound))
+    omega (arith, ends c.args.side c.args.g c.args.g (board_side c.args.side (length c.args.lane.now) c.requires.board) (c.requires.in_range, c.requires.in_range))
 
 pub loop-p-init : goal.loop-p-init
 loop-p-init c =
-    trades_start c.requires.lane_value c.requires.g_bound
+    trades_start c.requires.board c.requires.in_range
 
 pub across-q-requires : goal.across-q-requires
 across-q-requires c =
-    (board_side c.args.side (length c.args.lane.now) c.requires.lane_value, (c.requires.listed, (c.requires.g_bound, c.loop-p-test.true)))
+    record { a_side = board_side c.args.side (length c.args.lane.now) c.requires.board; listed = c.requires.listed; in_range = (c.requires.in_range, c.loop-p-test.true) }
 
 pub overflow_mul-g : goal.overflow_mul-g
 overflow_mul-g c = omega (arith, trades_ends c.loop-p.invariant c.loop-p-test.true)

@@ -1,4 +1,3 @@
-use Prim.Native.Nat.{◌-◌}
 use native.Mathlib.Omega.{arith}
 use Rattle.light.specs.Lanes.{slots}
 use Rattle.light.proofs.Groups.{trades_long, trades_ends, trades_other, trades_later, ends}
@@ -7,19 +6,23 @@ use Rattle.light.proofs.trade_slot_places.Goals as goal
 
 pub overflow_mul-groups : goal.overflow_mul-groups
 overflow_mul-groups c =
-    omega (arith, ends _ _ _ (slots_side c.args.side (slots c.args.words.now c.args.marks.now c.args.aims.now) c.requires.aims_value) (c.requires.g_bound, c.requires.g_bound))
+    omega (arith, ends _ _ _ (slots_side c.args.side (slots c.args.words.now c.args.marks.now c.args.aims.now) c.requires.board) (c.requires.in_range, c.requires.in_range))
 
 pub overflow_add-p : goal.overflow_add-p
 overflow_add-p c =
-    omega (arith, ends _ _ _ (slots_side c.args.side (slots c.args.words.now c.args.marks.now c.args.aims.now) c.requires.aims_value) (c.requires.g_bound, c.requires.g_bound))
+    omega (arith, ends _ _ _ (slots_side c.args.side (slots c.args.words.now c.args.marks.now c.args.aims.now) c.requires.board) (c.requires.in_range, c.requires.in_range))
 
 pub loop-p-init : goal.loop-p-init
 loop-p-init c =
-    sweeping_start _ c.requires.aims_value c.requires.g_bound
+    sweeping_start _ c.requires.board c.requires.in_range
 
 pub across-q-requires : goal.across-q-requires
 across-q-requires c =
-    (slots_side c.args.side (slots c.args.words.now c.args.marks.now c.args.aims.now) c.requires.aims_value, (c.requires.listed, (c.requires.g_bound, c.loop-p-test.true)))
+    record {
+      a_side = slots_side c.args.side (slots c.args.words.now c.args.marks.now c.args.aims.now) c.requires.board;
+      listed = c.requires.listed;
+      in_range = (c.requires.in_range, c.loop-p-test.true);
+    }
 
 pub overflow_mul-g : goal.overflow_mul-g
 overflow_mul-g c = omega (arith, trades_ends c.loop-p.invariant.words c.loop-p-test.true)
@@ -63,4 +66,4 @@ shape_of-aims c = trades_long c.loop-p.invariant.aims
 
 pub returns : goal.returns
 returns c =
-    sweeping_end c.loop-p-test.false (slots_side c.args.side (slots c.args.words.now c.args.marks.now c.args.aims.now) c.requires.aims_value) c.loop-p.invariant
+    sweeping_end c.loop-p-test.false (slots_side c.args.side (slots c.args.words.now c.args.marks.now c.args.aims.now) c.requires.board) c.loop-p.invariant

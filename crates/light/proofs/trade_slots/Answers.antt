@@ -1,4 +1,3 @@
-use Prim.Native.Nat.{◌-◌}
 use native.Mathlib.Omega.{arith}
 use Rattle.array.proofs.Board.{side_known}
 use Rattle.light.specs.Lanes.{slots}
@@ -17,7 +16,7 @@ loop-g-init c =
 
 pub trade_group_slots-moved-requires : goal.trade_group_slots-moved-requires
 trade_group_slots-moved-requires c =
-    (walking_board c.loop-g.invariant, c.loop-g-test.true)
+    record { board = walking_board c.loop-g.invariant; in_range = c.loop-g-test.true }
 
 pub overflow_add-moved : goal.overflow_add-moved
 overflow_add-moved c =

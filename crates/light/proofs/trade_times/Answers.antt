@@ -1,6 +1,4 @@
-use Prim.Native.Nat.{◌-◌}
 use mathlib.Core.Path.{refl, sym, ◌∙◌}
-use mathlib.Core.Bool.{true}
 use native.Mathlib.Omega.{arith}
 use Rattle.light.specs.Lanes.{slots}
 use Rattle.light.proofs.Walking.{times_start, times_next, times_board, times_end, some_counted, times_counted}

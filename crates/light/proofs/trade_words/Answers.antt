@@ -1,5 +1,4 @@
 -- `light::trade_words` meets its contract: one group after the other has its turn.
-use Prim.Native.Nat.{◌-◌}
 use native.Mathlib.Omega.{arith}
 use lib.ListN.{length}
 use Rattle.light.proofs.Turning.{board_known}
@@ -13,7 +12,7 @@ pub loop-g-init : goal.loop-g-init
 loop-g-init c = rounds_start c.args.side c.args.lane.now c.requires
 
 pub trade_group-requires : goal.trade_group-requires
-trade_group-requires c = (rounds_board c.loop-g.invariant, c.loop-g-test.true)
+trade_group-requires c = record { board = rounds_board c.loop-g.invariant; in_range = c.loop-g-test.true }
 
 pub overflow_add-g : goal.overflow_add-g
 overflow_add-g c =
