@@ -12,7 +12,7 @@ use Rattle.laws.proofs.Bools.{both_left, both_right}
 use Rattle.laws.proofs.Numbers.{square_grows, fourth_grows}
 use Rattle.laws.proofs.Tables.{entry_at, length-entries}
 use Rattle.array.specs.declared.moves.Way.{Way}
-use Rattle.array.specs.Cells.{is_side, groups, cells, place, partner, is_board}
+use Rattle.array.specs.Cells.{is_side, groups, cells, partner, is_board}
 use Rattle.array.proofs.Board.{group_of, place_of, side_known}
 use Rattle.light.specs.Lane.{swapped_lane}
 use Rattle.sums.specs.declared.Combining.{Combining}

@@ -113,16 +113,16 @@ module _ (op : ℕ → ℕ → ℕ) (s : ℕ) (f : ℕ → ℕ) (p : ℕ) (p_in 
 
 module _ (op : ℕ → ℕ → ℕ) (s : ℕ) (σ : State ℕ) (c d a b : ℕ) where
   pub right-all : b < s → all s (from Right word op 0 (s - 1)) σ c d a b ≡ acc op (σ c d a) b
-  right-all h = ap (λ (g : ℕ → ℕ). g b) (right s (s - 1) _ σ c d (s - 1) a) ∙ before_all op s (σ c d a) b h
+  right-all h = ap (λ (g : ℕ → ℕ). g b) (right s (s - 1) (from Right word op 0 (s - 1)).rule σ c d (s - 1) a) ∙ before_all op s (σ c d a) b h
 
   pub down-all : a < s → all s (from Down word op 0 (s - 1)) σ c d a b ≡ acc op (λ i. σ c d i b) a
-  down-all h = ap (λ (g : ℕ → ℕ). g a) (down s (s - 1) _ σ c d (s - 1) b) ∙ before_all op s (λ i. σ c d i b) a h
+  down-all h = ap (λ (g : ℕ → ℕ). g a) (down s (s - 1) (from Down word op 0 (s - 1)).rule σ c d (s - 1) b) ∙ before_all op s (λ i. σ c d i b) a h
 
   pub left-all : b < s → all s (from Left word op (s - 1) (s - 1)) σ c d a b ≡ acc op (λ j. σ c d a (s - 1 - j)) (s - 1 - b)
-  left-all h = ap (λ (g : ℕ → ℕ). g b) (left s (s - 1) _ σ c d (s - 1) a) ∙ after-all op s (σ c d a) b h
+  left-all h = ap (λ (g : ℕ → ℕ). g b) (left s (s - 1) (from Left word op (s - 1) (s - 1)).rule σ c d (s - 1) a) ∙ after-all op s (σ c d a) b h
 
   pub up-all : a < s → all s (from Up word op (s - 1) (s - 1)) σ c d a b ≡ acc op (λ i. σ c d (s - 1 - i) b) (s - 1 - a)
-  up-all h = ap (λ (g : ℕ → ℕ). g a) (up s (s - 1) _ σ c d (s - 1) b) ∙ after-all op s (λ i. σ c d i b) a h
+  up-all h = ap (λ (g : ℕ → ℕ). g a) (up s (s - 1) (from Up word op (s - 1) (s - 1)).rule σ c d (s - 1) b) ∙ after-all op s (λ i. σ c d i b) a h
 
 -- copies and sums gathered
 pub acc-copy : (f : ℕ → ℕ) (j : ℕ) → acc copy f j ≡ f 0

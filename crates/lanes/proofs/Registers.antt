@@ -43,7 +43,7 @@ module _ {R A : Type 0} {Good : R → Type 0} {Fit : A → Type 0} where
 
   pub both_keep : {ts us : List (Stage R A)} → KeepAll Good Fit ts → KeepAll Good Fit us → KeepAll Good Fit (ts ++ us)
   both_keep {ts = []} z w = w
-  both_keep {ts = t ∷ ts} z w = first_keeps z and both_keep (rest_keep z) w
+  both_keep {ts = t ∷ ts} z w = first_keeps z and both_keep {ts = ts} (rest_keep z) w
 
 -- what is received was handed on
 module _ {A : Type 0} (Fit : A → Type 0) where

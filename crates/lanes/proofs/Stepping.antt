@@ -20,7 +20,7 @@ use Rattle.array.specs.Cells.{groups, row, column}
 use Rattle.lanes.specs.declared.Joining.{Joining}
 use Rattle.lanes.specs.declared.steps.JoinRule.{JoinRule}
 use Rattle.lanes.specs.declared.steps.Source.TheVariants.{At, Nothing}
-use Rattle.lanes.specs.Machine.{State, Stage, receive, from_before, from_after, ran, at}
+use Rattle.lanes.specs.Machine.{State, Stage, receive, from_before, from_after, ran}
 use Rattle.lanes.specs.Stages.{position, steps_on}
 use Rattle.lanes.specs.Inside.{Moved, source_of, word_at, next_of, stepped, stepped_all}
 use Rattle.lanes.specs.Runs.{rule_of, running}

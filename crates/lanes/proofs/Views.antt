@@ -9,6 +9,7 @@ use Rattle.array.specs.declared.moves.Way.TheVariants.{Right, Left, Up, Down}
 use Rattle.array.specs.declared.moves.Move.{Move}
 use Rattle.array.specs.declared.moves.Move.TheVariants.{Swap, Electronic}
 use Rattle.runs.specs.declared.Run.{Run}
+use Rattle.runs.specs.Runs.{along}
 use Rattle.lanes.specs.Machine.{State, Rule, Stage, from_before, receive, make, ran, all}
 use Rattle.lanes.specs.Stages.{front, from, word, steps_on, position}
 
@@ -62,7 +63,7 @@ module _ {R : Type 0} (φ : R → ℕ) (op : R → ℕ → R) (op' : ℕ → ℕ
   pub from_view : (s : ℕ) (w : Way) (e n : ℕ) {σ : State R} {τ : State ℕ} → lane φ σ ≡ τ
       → lane φ (all s (from w φ op e n) σ) ≡ all s (from w word op' e n) τ
   from_view s w e n {σ} h =
-      ran_view φ _ _ _ (λ k c d a b. front_view (steps_on w e (suc k)) (position w a b)) s n σ ∙ ap (all s (from w word op' e n)) h
+      ran_view φ (along w n) (from {R = R} {A = ℕ} w φ op e n).rule (from w word op' e n).rule (λ k c d a b. front_view (steps_on w e (suc k)) (position w a b)) s n σ ∙ ap (all s (from w word op' e n)) h
 
 -- what every turn of a cell keeps, a run keeps
 pub ran_keeps : {R A : Type 0} (P : R → Type 0) (s : ℕ) (t : Stage R A) (σ : State R) (c d a b : ℕ)

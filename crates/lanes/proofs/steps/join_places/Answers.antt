@@ -1,5 +1,4 @@
 -- `lanes::steps::join_places` meets its contract: place by place, by `PlacesLaid`.
-use Prim.Native.Nat.{◌-◌}
 use native.Mathlib.Omega.{arith}
 use mathlib.Core.Path.{◌≡◌, refl}
 use Rattle.lanes.proofs.Laying.{laid_start, laid_next, join_place}

@@ -1,5 +1,4 @@
 -- `lanes::steps::run_board` meets its contract: move by move, by `run-next`.
-use Prim.Native.Nat.{◌-◌}
 use native.Mathlib.Omega.{arith}
 use mathlib.Core.Path.{◌≡◌, refl, ◌∙◌}
 use borrow.Author.Rules.{rules}
@@ -12,7 +11,7 @@ loop-k-init c = (search rules, refl, run_start _ (running c.args.way c.args.join
 
 pub loop-k-preserved : goal.loop-k-preserved
 loop-k-preserved c =
-    (omega arith, c.step_all.auto.0 ∙ c.loop-k.invariant.1, run_next _ c.args.way c.args.joining c.args.e c.args.n c.loop-k.k _ c.steps_on.ensures c.loop-k.invariant.2 c.step_all.ensures)
+    (omega arith, c.step_all.auto.words ∙ c.loop-k.invariant.1, run_next _ c.args.way c.args.joining c.args.e c.args.n c.loop-k.k _ c.steps_on.ensures c.loop-k.invariant.2 c.step_all.ensures)
 
 pub shape_of-words : goal.shape_of-words
 shape_of-words c = c.loop-k.invariant.1

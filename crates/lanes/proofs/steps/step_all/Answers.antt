@@ -1,5 +1,4 @@
 -- `lanes::steps::step_all` meets its contract: group by group, by `Changed`.
-use Prim.Native.Nat.{◌-◌}
 use native.Mathlib.Omega.{arith}
 use mathlib.Core.Path.{◌∙◌}
 use borrow.Author.Rules.{rules}
@@ -37,14 +36,17 @@ slice_bounds-step-end c = omega (arith, block_in _ c.requires.whole c.loop-g-tes
 
 pub step-requires : goal.step-requires
 step-requires c =
-    (record { least = c.requires.least; most = c.requires.most; whole = block_size _ c.requires.whole c.loop-g-test.true c.loop-g.invariant.1 }, c.line_at-line.ensures)
+    record {
+      group = record { least = c.requires.least; most = c.requires.most; whole = block_size _ c.requires.whole c.loop-g-test.true c.loop-g.invariant.1 };
+      line_value = c.line_at-line.ensures;
+    }
 
 pub overflow_add-g : goal.overflow_add-g
 overflow_add-g c = omega (arith, square_grows c.requires.most)
 
 pub loop-g-preserved : goal.loop-g-preserved
 loop-g-preserved c =
-    (omega arith, changed_next _ c.requires.whole c.loop-g-test.true c.loop-g.invariant.1 _ (c.step.auto.0 ∙ block_size _ c.requires.whole c.loop-g-test.true c.loop-g.invariant.1) c.step.ensures)
+    (omega arith, changed_next _ c.requires.whole c.loop-g-test.true c.loop-g.invariant.1 _ (c.step.auto.part ∙ block_size _ c.requires.whole c.loop-g-test.true c.loop-g.invariant.1) c.step.ensures)
 
 pub shape_of-words : goal.shape_of-words
 shape_of-words c = c.loop-g.invariant.1.size
