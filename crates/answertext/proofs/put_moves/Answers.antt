@@ -1,7 +1,7 @@
 -- `answertext::put_moves` meets its contract: line after line of the log.
 use Rattle.printing.proofs.Putting.{rows_begin, rows_end}
 use Rattle.answertext.proofs.Lines.{moves_next}
-use Rattle.std.proofs.Common.{◌-◌, rules}
+use Rattle.std.proofs.Common.{rules}
 use Rattle.answertext.proofs.put_moves.Goals as goal
 
 pub loop-i-init : goal.loop-i-init

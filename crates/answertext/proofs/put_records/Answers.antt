@@ -1,7 +1,7 @@
 -- `answertext::put_records` meets its contract: record after record.
 use Rattle.printing.proofs.Putting.{rows_begin, rows_end}
 use Rattle.answertext.proofs.Lines.{records_next}
-use Rattle.std.proofs.Common.{◌-◌, rules}
+use Rattle.std.proofs.Common.{rules}
 use Rattle.answertext.proofs.put_records.Goals as goal
 
 pub loop-i-init : goal.loop-i-init

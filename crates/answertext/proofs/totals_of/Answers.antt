@@ -1,6 +1,5 @@
 -- `answertext::totals_of` meets its contract: the lines of the log are added one after the other.
 use Rattle.answertext.proofs.Adding.{totals_begin, totals_more, totals_end}
-use Rattle.std.proofs.Common.{◌-◌}
 use Rattle.answertext.proofs.totals_of.Goals as goal
 
 pub loop-i-init : goal.loop-i-init
