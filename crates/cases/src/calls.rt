@@ -71,6 +71,7 @@ fn on_records(
 
 // A run on the lanes of a board, with spare lanes of 7s, and logs of 9s that are lent so far.
 fn step_records(
+    rt: &HostRuntime,
     run: RecordsRun,
     side: usize,
     log: usize,
@@ -85,28 +86,32 @@ fn step_records(
     let mut spare_aims = [7u16; 4096];
     let mut codes = [9u8; 4096];
     let mut moved = [9u16; 4096];
-    run_name(run);
-    show::lent(side, n, m);
-    show::answer(on_records(
-        run,
-        side,
-        &mut words[..n],
-        &mut marks[..n],
-        &mut aims[..n],
-        &mut spare_words[..n],
-        &mut spare_marks[..n],
-        &mut spare_aims[..n],
-        &mut codes[..m],
-        &mut moved[..m],
-    ));
-    show::lanes(n, words, marks, aims);
-    text(b"spare\n");
-    show::lanes(n, spare_words, spare_marks, spare_aims);
-    show::logs(m, codes, moved);
+    run_name(rt, run);
+    show::lent(rt, side, n, m);
+    show::answer(
+        rt,
+        on_records(
+            run,
+            side,
+            &mut words[..n],
+            &mut marks[..n],
+            &mut aims[..n],
+            &mut spare_words[..n],
+            &mut spare_marks[..n],
+            &mut spare_aims[..n],
+            &mut codes[..m],
+            &mut moved[..m],
+        ),
+    );
+    show::lanes(rt, n, words, marks, aims);
+    text(rt, b"spare\n");
+    show::lanes(rt, n, spare_words, spare_marks, spare_aims);
+    show::logs(rt, m, codes, moved);
 }
 
 // A run up to a cut has no plain form.
 pub(crate) fn records_run(
+    rt: &HostRuntime,
     run: RecordsRun,
     side: usize,
     log: usize,
@@ -114,62 +119,84 @@ pub(crate) fn records_run(
     marks: [u8; 4096],
     aims: [u16; 4096],
 ) {
-    step_records(run, side, log, words, marks, aims);
+    step_records(rt, run, side, log, words, marks, aims);
     if let RecordsRun::Whole(trip) = run {
-        plain_records(trip, side, words, marks, aims);
+        plain_records(rt, trip, side, words, marks, aims);
     }
 }
 
 // Rank on the marks of a board, with a log of 9s: gives the aims as well.
-fn step_rank(side: usize, log: usize, marks: [u8; 4096]) -> [u16; 4096] {
+fn step_rank(rt: &HostRuntime, side: usize, log: usize, marks: [u8; 4096]) -> [u16; 4096] {
     let n = lane_cells(side);
     let m = lane_within(log);
     let mut aims = [9u16; 4096];
     let mut codes = [9u8; 4096];
-    text(b"rank");
-    show::lent(side, n, m);
-    show::answer(rank(side, &marks[..n], &mut aims[..n], &mut codes[..m]));
-    show::codes(m, codes);
-    show::aims(n, aims);
+    text(rt, b"rank");
+    show::lent(rt, side, n, m);
+    show::answer(rt, rank(side, &marks[..n], &mut aims[..n], &mut codes[..m]));
+    show::codes(rt, m, codes);
+    show::aims(rt, n, aims);
     aims
 }
 
-pub(crate) fn rank_run(side: usize, log: usize, marks: [u8; 4096]) -> [u16; 4096] {
-    let aims = step_rank(side, log, marks);
-    plain_rank(side, marks);
+pub(crate) fn rank_run(
+    rt: &HostRuntime,
+    side: usize,
+    log: usize,
+    marks: [u8; 4096],
+) -> [u16; 4096] {
+    let aims = step_rank(rt, side, log, marks);
+    plain_rank(rt, side, marks);
     aims
 }
 
 // An operation on the first words of a lane, with a log of 9s.
-fn step_words(operation: Operation, side: usize, lane: usize, log: usize, mut words: [u32; 4096]) {
+fn step_words(
+    rt: &HostRuntime,
+    operation: Operation,
+    side: usize,
+    lane: usize,
+    log: usize,
+    mut words: [u32; 4096],
+) {
     let n = lane_within(lane);
     let m = lane_within(log);
     let mut codes = [9u8; 4096];
-    operation_name(operation);
-    show::lent(side, n, m);
-    show::answer(on_words(operation, side, &mut words[..n], &mut codes[..m]));
-    show::codes(m, codes);
-    show::words(n, words);
+    operation_name(rt, operation);
+    show::lent(rt, side, n, m);
+    show::answer(
+        rt,
+        on_words(operation, side, &mut words[..n], &mut codes[..m]),
+    );
+    show::codes(rt, m, codes);
+    show::words(rt, n, words);
 }
 
 pub(crate) fn words_run(
+    rt: &HostRuntime,
     operation: Operation,
     side: usize,
     lane: usize,
     log: usize,
     words: [u32; 4096],
 ) {
-    step_words(operation, side, lane, log, words);
-    plain_words(operation, side, lane, words);
+    step_words(rt, operation, side, lane, log, words);
+    plain_words(rt, operation, side, lane, words);
 }
 
 // The stretch of a group as it is handed back, and all words.
-pub(crate) fn group_run(side: usize, group: usize, lane: usize, words: [u32; 4096]) {
+pub(crate) fn group_run(
+    rt: &HostRuntime,
+    side: usize,
+    group: usize,
+    lane: usize,
+    words: [u32; 4096],
+) {
     let n = lane_within(lane);
-    text(b"group words");
-    value(group as u64);
-    show::lent(side, n, 0);
-    show::answer(group_words_answer(side, group, &words[..n]));
-    show::part(group_words(side, group, &words[..n]));
-    show::words(n, words);
+    text(rt, b"group words");
+    value(rt, group as u64);
+    show::lent(rt, side, n, 0);
+    show::answer(rt, group_words_answer(side, group, &words[..n]));
+    show::part(rt, group_words(side, group, &words[..n]));
+    show::words(rt, n, words);
 }

@@ -9,11 +9,11 @@ mod on_words;
 mod plainly;
 mod show;
 
-fn main() {
-    on_records::starred();
-    on_words::starred();
-    on_records::edges();
-    on_words::at_every_side();
-    on_words::refused_words();
-    on_records::frames();
+fn main(rt: HostRuntime) {
+    on_records::starred(&rt);
+    on_words::starred(&rt);
+    on_records::edges(&rt);
+    on_words::at_every_side(&rt);
+    on_words::refused_words(&rt);
+    on_records::frames(&rt);
 }

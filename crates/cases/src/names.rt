@@ -4,58 +4,58 @@ use crate::show::{distance, text, value};
 use lists::Trip;
 use shiftlists::{Axis, Edge};
 
-fn axis_name(axis: Axis) {
+fn axis_name(rt: &HostRuntime, axis: Axis) {
     match axis {
-        Axis::MeshRow => text(b"shift mesh row, "),
-        Axis::MeshColumn => text(b"shift mesh column, "),
-        Axis::GroupRow => text(b"shift group row, "),
-        Axis::GroupColumn => text(b"shift group column, "),
+        Axis::MeshRow => text(rt, b"shift mesh row, "),
+        Axis::MeshColumn => text(rt, b"shift mesh column, "),
+        Axis::GroupRow => text(rt, b"shift group row, "),
+        Axis::GroupColumn => text(rt, b"shift group column, "),
     }
 }
 
-fn edge_name(edge: Edge) {
+fn edge_name(rt: &HostRuntime, edge: Edge) {
     match edge {
-        Edge::ZeroFill => text(b"zero fill"),
-        Edge::Circular => text(b"circular"),
+        Edge::ZeroFill => text(rt, b"zero fill"),
+        Edge::Circular => text(rt, b"circular"),
     }
 }
 
-fn shift_name(axis: Axis, edge: Edge, k: i32) {
-    axis_name(axis);
-    edge_name(edge);
-    distance(k);
+fn shift_name(rt: &HostRuntime, axis: Axis, edge: Edge, k: i32) {
+    axis_name(rt, axis);
+    edge_name(rt, edge);
+    distance(rt, k);
 }
 
-fn broadcast_name(cell: usize) {
-    text(b"broadcast");
-    value(cell as u64);
+fn broadcast_name(rt: &HostRuntime, cell: usize) {
+    text(rt, b"broadcast");
+    value(rt, cell as u64);
 }
 
-pub(crate) fn operation_name(operation: Operation) {
+pub(crate) fn operation_name(rt: &HostRuntime, operation: Operation) {
     match operation {
-        Operation::Broadcast(cell) => broadcast_name(cell),
-        Operation::DataSum => text(b"data sum"),
-        Operation::PrefixSum => text(b"prefix sum"),
-        Operation::Shift(axis, edge, k) => shift_name(axis, edge, k),
+        Operation::Broadcast(cell) => broadcast_name(rt, cell),
+        Operation::DataSum => text(rt, b"data sum"),
+        Operation::PrefixSum => text(rt, b"prefix sum"),
+        Operation::Shift(axis, edge, k) => shift_name(rt, axis, edge, k),
     }
 }
 
-fn trip_name(trip: Trip) {
+fn trip_name(rt: &HostRuntime, trip: Trip) {
     match trip {
-        Trip::Concentrate => text(b"concentrate"),
-        Trip::Distribute => text(b"distribute"),
+        Trip::Concentrate => text(rt, b"concentrate"),
+        Trip::Distribute => text(rt, b"distribute"),
     }
 }
 
-fn cut_name(trip: Trip, cut: usize) {
-    trip_name(trip);
-    text(b" cut");
-    value(cut as u64);
+fn cut_name(rt: &HostRuntime, trip: Trip, cut: usize) {
+    trip_name(rt, trip);
+    text(rt, b" cut");
+    value(rt, cut as u64);
 }
 
-pub(crate) fn run_name(run: RecordsRun) {
+pub(crate) fn run_name(rt: &HostRuntime, run: RecordsRun) {
     match run {
-        RecordsRun::Whole(trip) => trip_name(trip),
-        RecordsRun::Cut(trip, cut) => cut_name(trip, cut),
+        RecordsRun::Whole(trip) => trip_name(rt, trip),
+        RecordsRun::Cut(trip, cut) => cut_name(rt, trip, cut),
     }
 }

@@ -36,24 +36,31 @@ fn on_records(
     }
 }
 
-pub(crate) fn plain_words(operation: Operation, side: usize, lane: usize, mut words: [u32; 4096]) {
+pub(crate) fn plain_words(
+    rt: &HostRuntime,
+    operation: Operation,
+    side: usize,
+    lane: usize,
+    mut words: [u32; 4096],
+) {
     let n = lane_within(lane);
-    text(b"plain\n");
-    show::answer(on_words(operation, side, &mut words[..n]));
-    show::words(n, words);
+    text(rt, b"plain\n");
+    show::answer(rt, on_words(operation, side, &mut words[..n]));
+    show::words(rt, n, words);
 }
 
 // The aims hold 9s before.
-pub(crate) fn plain_rank(side: usize, marks: [u8; 4096]) {
+pub(crate) fn plain_rank(rt: &HostRuntime, side: usize, marks: [u8; 4096]) {
     let n = lane_cells(side);
     let mut aims = [9u16; 4096];
-    text(b"plain\n");
-    show::answer(plainrecords::rank(side, &marks[..n], &mut aims[..n]));
-    show::aims(n, aims);
+    text(rt, b"plain\n");
+    show::answer(rt, plainrecords::rank(side, &marks[..n], &mut aims[..n]));
+    show::aims(rt, n, aims);
 }
 
 // With spare lanes of 7s.
 pub(crate) fn plain_records(
+    rt: &HostRuntime,
     trip: Trip,
     side: usize,
     mut words: [u32; 4096],
@@ -64,18 +71,21 @@ pub(crate) fn plain_records(
     let mut spare_words = [7u32; 4096];
     let mut spare_marks = [7u8; 4096];
     let mut spare_aims = [7u16; 4096];
-    text(b"plain\n");
-    show::answer(on_records(
-        trip,
-        side,
-        &mut words[..n],
-        &mut marks[..n],
-        &mut aims[..n],
-        &mut spare_words[..n],
-        &mut spare_marks[..n],
-        &mut spare_aims[..n],
-    ));
-    show::lanes(n, words, marks, aims);
-    text(b"spare\n");
-    show::lanes(n, spare_words, spare_marks, spare_aims);
+    text(rt, b"plain\n");
+    show::answer(
+        rt,
+        on_records(
+            trip,
+            side,
+            &mut words[..n],
+            &mut marks[..n],
+            &mut aims[..n],
+            &mut spare_words[..n],
+            &mut spare_marks[..n],
+            &mut spare_aims[..n],
+        ),
+    );
+    show::lanes(rt, n, words, marks, aims);
+    text(rt, b"spare\n");
+    show::lanes(rt, n, spare_words, spare_marks, spare_aims);
 }

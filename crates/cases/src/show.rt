@@ -1,61 +1,60 @@
 // What the program writes. A line is a name and its values, parted by tabs.
 use answers::Answer;
-use libc::STDOUT_FILENO;
 use shiftlists::distance_of;
 use std::num::wrapping_add_u32;
 
-pub(crate) fn text(bytes: &[u8]) {
-    io::write_all(STDOUT_FILENO, bytes);
+pub(crate) fn text(rt: &HostRuntime, bytes: &[u8]) {
+    let _ = rt.write_all(bytes);
 }
 
-fn end() {
-    text(b"\n");
+fn end(rt: &HostRuntime) {
+    text(rt, b"\n");
 }
 
-pub(crate) fn value(n: u64) {
-    text(b"\t");
-    io::print_decimal(STDOUT_FILENO, n);
+pub(crate) fn value(rt: &HostRuntime, n: u64) {
+    text(rt, b"\t");
+    let _ = rt.print(n);
 }
 
 // A distance, with its sign.
-pub(crate) fn distance(k: i32) {
+pub(crate) fn distance(rt: &HostRuntime, k: i32) {
     let far = distance_of(k);
     if far.back > 0 {
-        text(b"\t-");
-        io::print_decimal(STDOUT_FILENO, far.back as u64);
+        text(rt, b"\t-");
+        let _ = rt.print(far.back);
     } else {
-        value(far.forth as u64);
+        value(rt, far.forth as u64);
     }
 }
 
 // The end of the line that says what is called: the side, and how many cells and entries of a log are lent.
-pub(crate) fn lent(side: usize, cells: usize, log: usize) {
-    text(b"\tside");
-    value(side as u64);
-    text(b"\tcells");
-    value(cells as u64);
-    text(b"\tlog");
-    value(log as u64);
-    end();
+pub(crate) fn lent(rt: &HostRuntime, side: usize, cells: usize, log: usize) {
+    text(rt, b"\tside");
+    value(rt, side as u64);
+    text(rt, b"\tcells");
+    value(rt, cells as u64);
+    text(rt, b"\tlog");
+    value(rt, log as u64);
+    end(rt);
 }
 
-pub(crate) fn answer(answer: Answer) {
-    text(b"answer");
-    value(answer.number as u64);
-    value(answer.place as u64);
-    value(answer.electronic as u64);
-    value(answer.swaps as u64);
-    end();
+pub(crate) fn answer(rt: &HostRuntime, answer: Answer) {
+    text(rt, b"answer");
+    value(rt, answer.number as u64);
+    value(rt, answer.place as u64);
+    value(rt, answer.electronic as u64);
+    value(rt, answer.swaps as u64);
+    end(rt);
 }
 
 fn entry(row: &[u32], i: usize) -> u32 {
     if i < row.len() { row[i] } else { 0 }
 }
 
-fn entries(n: usize, row: &[u32]) {
+fn entries(rt: &HostRuntime, n: usize, row: &[u32]) {
     let mut i: usize = 0;
     while i < n {
-        value(entry(row, i) as u64);
+        value(rt, entry(row, i) as u64);
         i += 1;
     }
 }
@@ -74,15 +73,15 @@ fn check(n: usize, row: &[u32]) -> u32 {
 }
 
 // The first n entries where they can be read, and else their check.
-fn line(name: &[u8], n: usize, row: &[u32]) {
-    text(name);
+fn line(rt: &HostRuntime, name: &[u8], n: usize, row: &[u32]) {
+    text(rt, name);
     if n <= 81 {
-        entries(n, row);
+        entries(rt, n, row);
     } else {
-        text(b" checked");
-        value(check(n, row) as u64);
+        text(rt, b" checked");
+        value(rt, check(n, row) as u64);
     }
-    end();
+    end(rt);
 }
 
 fn wide_byte(byte: u8) -> u32 {
@@ -113,37 +112,43 @@ fn wide_halves(halves: [u16; 4096]) -> [u32; 4096] {
     row
 }
 
-pub(crate) fn words(n: usize, words: [u32; 4096]) {
-    line(b"words", n, &words);
+pub(crate) fn words(rt: &HostRuntime, n: usize, words: [u32; 4096]) {
+    line(rt, b"words", n, &words);
 }
 
-pub(crate) fn part(part: &[u32]) {
-    line(b"part", part.len(), part);
+pub(crate) fn part(rt: &HostRuntime, part: &[u32]) {
+    line(rt, b"part", part.len(), part);
 }
 
-fn marks(n: usize, marks: [u8; 4096]) {
-    line(b"marks", n, &wide_bytes(marks));
+fn marks(rt: &HostRuntime, n: usize, marks: [u8; 4096]) {
+    line(rt, b"marks", n, &wide_bytes(marks));
 }
 
-pub(crate) fn aims(n: usize, aims: [u16; 4096]) {
-    line(b"aims", n, &wide_halves(aims));
+pub(crate) fn aims(rt: &HostRuntime, n: usize, aims: [u16; 4096]) {
+    line(rt, b"aims", n, &wide_halves(aims));
 }
 
 // The front lanes of n cells, or the spare ones.
-pub(crate) fn lanes(n: usize, word: [u32; 4096], mark: [u8; 4096], aim: [u16; 4096]) {
-    words(n, word);
-    marks(n, mark);
-    aims(n, aim);
+pub(crate) fn lanes(
+    rt: &HostRuntime,
+    n: usize,
+    word: [u32; 4096],
+    mark: [u8; 4096],
+    aim: [u16; 4096],
+) {
+    words(rt, n, word);
+    marks(rt, n, mark);
+    aims(rt, n, aim);
 }
 
-pub(crate) fn codes(n: usize, codes: [u8; 4096]) {
-    line(b"codes", n, &wide_bytes(codes));
+pub(crate) fn codes(rt: &HostRuntime, n: usize, codes: [u8; 4096]) {
+    line(rt, b"codes", n, &wide_bytes(codes));
 }
 
 // The two logs of a whole run of records; a run up to a cut has none.
-pub(crate) fn logs(n: usize, log: [u8; 4096], moved: [u16; 4096]) {
+pub(crate) fn logs(rt: &HostRuntime, n: usize, log: [u8; 4096], moved: [u16; 4096]) {
     if 0 < n {
-        codes(n, log);
-        line(b"moved", n, &wide_halves(moved));
+        codes(rt, n, log);
+        line(rt, b"moved", n, &wide_halves(moved));
     }
 }

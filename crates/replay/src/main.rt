@@ -4,6 +4,11 @@
 
 ghost use Rattle.replay.specs.Reads.{Within};
 
+use std::env::{Env, FillError};
+use std::fs;
+use std::fs::Files;
+use std::io::Read as _;
+
 // What came of a file: so many bytes, or that it cannot be read.
 #[derive(Clone, Copy)]
 enum Read {
@@ -11,63 +16,68 @@ enum Read {
     Unreadable,
 }
 
-// Reads an open file up to its end, or until the text is full. `read_full` stops at the end and at a read that fails alike, and one read
-// more tells which it was. A folder can be opened, and every read of it fails.
-fn read_open(fd: i32, text: &mut [u8; 65537]) -> Read
+// Reads an open file up to its end, or until the text is full. A folder can be opened, and every read of it fails.
+fn read_open<F: std::io::Read>(file: &mut F, text: &mut [u8]) -> Read
     ensures { Within result text.new }
 {
-    let n = io::read_full(fd, text);
-    if n == 65537 {
-        return Read::Bytes(n);
+    let mut count = 0;
+    while count < text.len() {
+        let Ok(more) = file.read(&mut text[count..]) else {
+            return Read::Unreadable;
+        };
+        if more == 0 {
+            return Read::Bytes(count);
+        }
+        count += more;
     }
-    let mut more = [0u8; 1];
-    if libc::read(fd, &mut more) == 0 {
-        return Read::Bytes(n);
-    }
-    Read::Unreadable
+    Read::Bytes(count)
 }
 
 // Reads the file that a word names. Of a word that is too long for a name no byte is handed on, and no file has an empty name.
-fn read_named(word: usize, text: &mut [u8; 65537]) -> Read
+fn read_named<R: Env + Files>(rt: &R, word: usize, text: &mut [u8; 65537]) -> Read
     ensures { Within result text.new }
 {
-    let mut name = io::buffer();
-    let length = os::arg(word, &mut name);
-    let fd = os::open_read(&name[..length]);
-    if fd < 0 {
+    let mut name = [0u8; 4096];
+    let length = rt.arg(word, &mut name).unwrap_or(0);
+    let Ok(path) = str::from_utf8(&name[..length]) else {
         return Read::Unreadable;
-    }
-    let read = read_open(fd, text);
-    libc::close(fd);
-    read
+    };
+    let Ok(mut file) = fs::open(rt, path) else {
+        return Read::Unreadable;
+    };
+    read_open(&mut file, text)
+}
+
+// Whether the program was started with such a word; its own name is word 0.
+fn has_word(rt: &impl Env, word: usize) -> bool {
+    !matches!(rt.arg(word, &mut [0u8; 1]), Err(FillError::NotPresent))
 }
 
 // Writes the line that answers a job and a capture.
-fn answer(job: &[u8], capture: &[u8]) {
+fn answer(rt: &(impl Print + Eprint), job: &[u8], capture: &[u8]) {
     let mut out = [0u8; 64];
     let count = replays::run(job, capture, &mut out);
-    if !io::write_all(1, &out[..count]) {
-        io::write_all(2, b"replay: the output could not be written whole\n");
+    if rt.write_all(&out[..count]).is_err() {
+        let _ = rt.eprintln("replay: the output could not be written whole");
     }
 }
 
-fn main() {
-    if os::arg_count() != 3 {
-        io::write_all(
-            2,
-            b"replay: two words are wanted, the names of a job file and a capture file\n",
+fn main(rt: HostRuntime) {
+    if !has_word(&rt, 2) || has_word(&rt, 3) {
+        let _ = rt.eprintln(
+            "replay: two words are wanted, the names of a job file and a capture file",
         );
         return;
     }
     let mut job = [0u8; 65537];
-    let Read::Bytes(job_bytes) = read_named(1, &mut job) else {
-        io::write_all(2, b"replay: the job file cannot be read\n");
+    let Read::Bytes(job_bytes) = read_named(&rt, 1, &mut job) else {
+        let _ = rt.eprintln("replay: the job file cannot be read");
         return;
     };
     let mut capture = [0u8; 65537];
-    let Read::Bytes(capture_bytes) = read_named(2, &mut capture) else {
-        io::write_all(2, b"replay: the capture file cannot be read\n");
+    let Read::Bytes(capture_bytes) = read_named(&rt, 2, &mut capture) else {
+        let _ = rt.eprintln("replay: the capture file cannot be read");
         return;
     };
-    answer(&job[..job_bytes], &capture[..capture_bytes]);
+    answer(&rt, &job[..job_bytes], &capture[..capture_bytes]);
 }
