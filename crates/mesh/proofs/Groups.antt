@@ -16,7 +16,7 @@ use Rattle.laws.specs.Sums.{sum}
 use Rattle.laws.proofs.Sums.{sum_cong, sum_add, sum-blocks}
 use Rattle.laws.proofs.Totals.{sum_zero, sum_few, sum-swap}
 use Rattle.laws.proofs.Deciding.{apart, same?}
-use Rattle.array.specs.Cells.{groups, cells, group}
+use Rattle.array.specs.Cells.{groups, cells}
 use Rattle.slots.specs.declared.Rec.{Rec}
 use Rattle.slots.specs.declared.Cell.{Cell}
 use Rattle.mesh.specs.declared.lines.LineRule.{LineRule}

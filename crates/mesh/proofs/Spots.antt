@@ -1,7 +1,7 @@
 -- The cells of a line. Every cell of a group is on one line, and a run of a cell looks at the cells of its line only.
 use Prim.Native.Nat.{ℕ, zero, suc, ◌+◌, ◌-◌, ◌*◌, ◌/◌, ◌%◌, ◌≤◌, ◌<◌}
 use mathlib.Core.Path.{◌≡◌, refl, sym, ap, ap₂, ◌∙◌}
-use mathlib.Core.Logic.{◌⊎◌, ⊎_elim}
+use mathlib.Core.Logic.{⊎_elim}
 use native.Mathlib.Nat.{mod-lt, div-one, mul-one, mul_assoc, mul-add-mod_self_right, mul-add-div_right, div-lt_iff_lt-mul, mod-eq_of_lt, div-add-mod'}
 use native.Mathlib.Omega.{arith}
 use borrow.Author.Tests.{eq-eqb, ne_eqb}

@@ -2,7 +2,7 @@
 use Rattle.std.specs.Prelude.{ℕ, zero, suc, ◌+◌, ◌-◌, ◌*◌, ◌/◌, ◌%◌, ◌≤◌, ◌<◌, min, ◌≡◌, Bool, true, false, cond, ◌⊎◌, List, eqb, length, get_or}
 use Rattle.laws.specs.Lent.{Slice, Lent, old, new}
 use Rattle.laws.specs.Sums.{sum}
-use Rattle.array.specs.Cells.{is_side, groups, cells}
+use Rattle.array.specs.Cells.{is_side, groups}
 use Rattle.slots.specs.declared.Rec.{Rec}
 use Rattle.slots.specs.declared.Cell.{Cell}
 use Rattle.slots.specs.Cells.{nothing, empty, joined, record_in}
@@ -57,10 +57,10 @@ abbrev pub slots_at : LineRule → ℕ → List ℕ → List ℕ → ℕ → Rec
 slots_at t start marks aims p = record { word = 0; mark = get_or marks (start + p * t.stride) 0; aim = get_or aims (start + p * t.stride) 0 }
 
 -- the three lanes of a slot have n cells
-pub record HasSlots (n : ℕ) (w m a : Slice) : Type 0 where
-  pub words : length w.now ≡ n
-  pub marks : length m.now ≡ n
-  pub aims : length a.now ≡ n
+pub record HasSlots (n : ℕ) (w m a : List ℕ) : Type 0 where
+  pub words : length w ≡ n
+  pub marks : length m ≡ n
+  pub aims : length a ≡ n
 
 -- the record of a slot
 abbrev pub slot_of : Bool → Cell → Rec
@@ -71,8 +71,8 @@ slot_of false c = c.front
 pub record Taken (t : LineRule) (start : ℕ) (S : ℕ → Rec) (r : List Rec) : Type 0 where
   pub is : (p : ℕ) → p < t.side → get_or r p nothing ≡ S (start + p * t.stride)
 
-abbrev pub TakenSlots : LineRule → ℕ → Lent → Lent → Lent → List Rec → Type 0
-TakenSlots t start w m a r = Taken t start (record_in (old w) (old m) (old a)) r
+abbrev pub TakenSlots : LineRule → ℕ → List ℕ → List ℕ → List ℕ → List Rec → Type 0
+TakenSlots t start w m a r = Taken t start (record_in w m a) r
 
 -- they were laid, and nothing else changed
 pub record Laid (t : LineRule) (start n : ℕ) (x : ℕ → Rec) (S S' : ℕ → Rec) : Type 0 where

@@ -40,8 +40,8 @@ pub(crate) fn take_slots(
     aims: &[u16],
 ) -> [Rec; 8]
     requires lies { Lies t n start }
-    requires has_slots { HasSlots n words marks aims }
-    ensures { TakenSlots t start words marks aims result }
+    requires has_slots { HasSlots n words.now marks.now aims.now }
+    ensures { TakenSlots t start words.now marks.now aims.now result }
 {
     let none = empty().front;
     let mut line = [none; 8];
@@ -76,7 +76,7 @@ pub(crate) fn lay_slots(
     aims: &mut [u16],
 )
     requires lies { Lies t n start }
-    requires has_slots { HasSlots n words marks aims }
+    requires has_slots { HasSlots n words.old marks.old aims.old }
     ensures { LaidSlots t start spare line words marks aims }
 {
     let mut p: usize = 0;

@@ -168,7 +168,7 @@ fn run_part(
 )
     requires ruled { Ruled t share × Strided t }
     requires roomy { Roomy 16384 counts }
-    requires side_bound { base + groups t.side ≤ cells t.side }
+    requires within { base + groups t.side ≤ cells t.side }
     requires by_index { (g : ℕ) × (base ≡ g * groups t.side) }
     requires long { Long (cells t.side) words marks aims spare_words spare_marks spare_aims }
     ensures { FromTo (RanPart t base counts) words marks aims spare_words spare_marks spare_aims }

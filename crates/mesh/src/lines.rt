@@ -71,8 +71,8 @@ struct Arrival {
 
 // The landing of a record of cell p that heads for cell h: all that it goes is up the line, or all of it down. No branch hangs on that.
 fn landing(t: LineRule, p: usize, h: usize) -> Arrival
-    requires p_lt_side { (p < t.side) × (h < t.side) }
-    requires side_bound { (t.side ≤ 8) × (t.made ≤ t.times) }
+    requires on_line { (p < t.side) × (h < t.side) }
+    requires few { (t.side ≤ 8) × (t.made ≤ t.times) }
     ensures { Lands t p h result }
 {
     let far = distance(t, p, h);

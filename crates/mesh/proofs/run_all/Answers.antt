@@ -1,4 +1,3 @@
-use Prim.Native.Nat.{◌-◌}
 use mathlib.Core.Path.{refl, sym, ◌∙◌}
 use native.Mathlib.Omega.{arith}
 use Rattle.laws.proofs.Bools.{passed, failed}
@@ -8,7 +7,6 @@ use Rattle.slots.proofs.Boards.{lanes_known}
 use Rattle.mesh.proofs.Ruling.{known}
 use Rattle.mesh.proofs.Groups.{ranged_start, ranged_step, ranged_few, ranged_end, part_fits, moving_few}
 use Rattle.mesh.proofs.Legs.{period_few, ruled, no_counts, ran-none}
-use Rattle.light.proofs.are_lanes.Reads as are-lanes-reads
 use Rattle.mesh.proofs.run_all.Goals as goal
 
 pub returns-then-not-are_lanes : goal.returns-then-not-are_lanes
@@ -52,7 +50,13 @@ run_part-requires c =
     let i = l.invariant in
     let k = known i.2 in
     let f = part_fits (groups_of c.rule_of-t.result.side) l.g l.base (moving_few c.rule_of-t.result i.1 c.loop-g-test.true) i.5.upto in
-    ((i.2, i.3), (record { long = i.5.long; room = λ d h. omega (arith, ranged_few (omega (arith, f, k.cells_few)) i.5 d h) }, (f, ((l.g, i.5.upto), i.4))))
+    record {
+      ruled = (i.2, i.3);
+      roomy = record { long = i.5.long; room = λ d h. omega (arith, ranged_few (omega (arith, f, k.cells_few)) i.5 d h) };
+      within = f;
+      by_index = (l.g, i.5.upto);
+      long = i.4;
+    }
 
 pub overflow_add-base : goal.overflow_add-base
 overflow_add-base c =

@@ -4,7 +4,6 @@ use Rattle.array.specs.Cells.{groups as groups_of, cells}
 use Rattle.slots.specs.Cells.{Sized, cell_at}
 use Rattle.mesh.specs.Inside.{moving_groups, Ruled, Strided}
 use Rattle.mesh.proofs.Groups.{Ranged}
-use Rattle.light.proofs.are_lanes.Reads as are-lanes-reads
 use Rattle.mesh.proofs.run_all.Given as goal
 
 abbrev pub invariant-loop-g : goal.invariant-loop-g

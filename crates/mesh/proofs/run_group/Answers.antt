@@ -1,6 +1,5 @@
 use Prim.Native.Nat.{ℕ, ◌*◌}
 use mathlib.Core.Path.{ap}
-use Prim.Native.Nat.{◌-◌}
 use mathlib.Core.Path.{refl}
 use native.Mathlib.Omega.{arith}
 use Rattle.mesh.proofs.Ruling.{known}
@@ -24,7 +23,11 @@ run_line-requires c =
     let k = known c.requires.ruled.0 in
     let y = line_lies c.args.t k.least k.most c.requires.ruled.0.stride c.requires.ruled.1 k.groups_few l.l c.loop-l-test.true in
     let few = lined_few k.most l.invariant.3 in
-    ((c.requires.ruled.0, rw (l.invariant.0, l.invariant.1) y), (record { long = l.invariant.3.long; room = λ d h. omega (arith, c.requires.roomy.room d h, few d h) }, l.invariant.2))
+    record {
+      ruled = (c.requires.ruled.0, rw (l.invariant.0, l.invariant.1) y);
+      roomy = record { long = l.invariant.3.long; room = λ d h. omega (arith, c.requires.roomy.room d h, few d h) };
+      long = l.invariant.2;
+    }
 
 pub overflow_add-l : goal.overflow_add-l
 overflow_add-l c =

@@ -1,6 +1,5 @@
 use mir.Val.{Fits}
 use mir.Syntax.{w64}
-use borrow.Rule.Slice.PartMut.{same_len_mid}
 use Prim.Native.Nat.{ℕ, ◌+◌, ◌-◌, ◌≤◌}
 use mathlib.Core.Path.{◌≡◌, refl}
 use native.Mathlib.Omega.{arith}
@@ -24,11 +23,11 @@ overflow_mul-end c = let k = known c.requires.ruled.0 in few (omega (arith, k.gr
 
 pub overflow_add-end : goal.overflow_add-end
 overflow_add-end c =
-    let k = known c.requires.ruled.0 in few (omega (arith, c.requires.side_bound, k.cells_few))
+    let k = known c.requires.ruled.0 in few (omega (arith, c.requires.within, k.cells_few))
 
 pub offset_bounds-words-base : goal.offset_bounds-words-base
 offset_bounds-words-base c =
-    let k = known c.requires.ruled.0 in omega (arith, c.requires.side_bound, k.cells_few)
+    let k = known c.requires.ruled.0 in omega (arith, c.requires.within, k.cells_few)
 
 pub slice_bounds-run_group-count : goal.slice_bounds-run_group-count
 slice_bounds-run_group-count c = from c.args.base _
@@ -38,7 +37,7 @@ slice_bounds-run_group-start c = from c.args.base _
 
 pub slice_bounds-run_group-end : goal.slice_bounds-run_group-end
 slice_bounds-run_group-end c =
-    upto c.requires.side_bound c.requires.long.words
+    upto c.requires.within c.requires.long.words
 
 pub slice_bounds-run_group-count-2 : goal.slice_bounds-run_group-count-2
 slice_bounds-run_group-count-2 c = from c.args.base _
@@ -48,11 +47,11 @@ slice_bounds-run_group-start-2 c = from c.args.base _
 
 pub slice_bounds-run_group-end-2 : goal.slice_bounds-run_group-end-2
 slice_bounds-run_group-end-2 c =
-    upto c.requires.side_bound c.requires.long.marks
+    upto c.requires.within c.requires.long.marks
 
 pub offset_bounds-aims-base : goal.offset_bounds-aims-base
 offset_bounds-aims-base c =
-    let k = known c.requires.ruled.0 in omega (arith, c.requires.side_bound, k.cells_few)
+    let k = known c.requires.ruled.0 in omega (arith, c.requires.within, k.cells_few)
 
 pub slice_bounds-run_group-count-3 : goal.slice_bounds-run_group-count-3
 slice_bounds-run_group-count-3 c = from c.args.base _
@@ -62,11 +61,11 @@ slice_bounds-run_group-start-3 c = from c.args.base _
 
 pub slice_bounds-run_group-end-3 : goal.slice_bounds-run_group-end-3
 slice_bounds-run_group-end-3 c =
-    upto c.requires.side_bound c.requires.long.aims
+    upto c.requires.within c.requires.long.aims
 
 pub offset_bounds-spare_words-base : goal.offset_bounds-spare_words-base
 offset_bounds-spare_words-base c =
-    let k = known c.requires.ruled.0 in omega (arith, c.requires.side_bound, k.cells_few)
+    let k = known c.requires.ruled.0 in omega (arith, c.requires.within, k.cells_few)
 
 pub slice_bounds-run_group-count-4 : goal.slice_bounds-run_group-count-4
 slice_bounds-run_group-count-4 c = from c.args.base _
@@ -76,7 +75,7 @@ slice_bounds-run_group-start-4 c = from c.args.base _
 
 pub slice_bounds-run_group-end-4 : goal.slice_bounds-run_group-end-4
 slice_bounds-run_group-end-4 c =
-    upto c.requires.side_bound c.requires.long.words2
+    upto c.requires.within c.requires.long.words2
 
 pub slice_bounds-run_group-count-5 : goal.slice_bounds-run_group-count-5
 slice_bounds-run_group-count-5 c = from c.args.base _
@@ -86,11 +85,11 @@ slice_bounds-run_group-start-5 c = from c.args.base _
 
 pub slice_bounds-run_group-end-5 : goal.slice_bounds-run_group-end-5
 slice_bounds-run_group-end-5 c =
-    upto c.requires.side_bound c.requires.long.marks2
+    upto c.requires.within c.requires.long.marks2
 
 pub offset_bounds-spare_aims-base : goal.offset_bounds-spare_aims-base
 offset_bounds-spare_aims-base c =
-    let k = known c.requires.ruled.0 in omega (arith, c.requires.side_bound, k.cells_few)
+    let k = known c.requires.ruled.0 in omega (arith, c.requires.within, k.cells_few)
 
 pub slice_bounds-run_group-count-6 : goal.slice_bounds-run_group-count-6
 slice_bounds-run_group-count-6 c = from c.args.base _
@@ -101,42 +100,15 @@ slice_bounds-run_group-start-6 c =
 
 pub slice_bounds-run_group-end-6 : goal.slice_bounds-run_group-end-6
 slice_bounds-run_group-end-6 c =
-    upto c.requires.side_bound c.requires.long.aims2
+    upto c.requires.within c.requires.long.aims2
 
 pub run_group-requires : goal.run_group-requires
 run_group-requires c =
     let n = groups c.args.t.side in
     let b = c.args.base in
     let k : b + n - b ≡ n = omega arith in
-    let z = part_sized b (b + n - b) c.requires.long (omega (arith, c.requires.side_bound)) in
-    (c.requires.ruled, (record { long = c.requires.roomy.long; room = c.requires.roomy.room }, omega (arith, k, z)))
-
-pub shape_of-counts : goal.shape_of-counts
-shape_of-counts c = c.run_group.auto.1.1.0
-
-pub shape_of-words : goal.shape_of-words
-shape_of-words c =
-    let a = c.args in let g = c.run_group in same_len_mid {X = ℕ} a.base (a.base + groups a.t.side - a.base) a.words.now g.new.1.1.1.0 g.auto.1.1.1.0
-
-pub shape_of-marks : goal.shape_of-marks
-shape_of-marks c =
-    let a = c.args in let g = c.run_group in same_len_mid {X = ℕ} a.base (a.base + groups a.t.side - a.base) a.marks.now g.new.1.1.1.1.0 g.auto.1.1.1.1.0
-
-pub shape_of-aims : goal.shape_of-aims
-shape_of-aims c =
-    let a = c.args in let g = c.run_group in same_len_mid {X = ℕ} a.base (a.base + groups a.t.side - a.base) a.aims.now g.new.1.1.1.1.1.0 g.auto.1.1.1.1.1.0
-
-pub shape_of-spare_words : goal.shape_of-spare_words
-shape_of-spare_words c =
-    let a = c.args in let g = c.run_group in same_len_mid {X = ℕ} a.base (a.base + groups a.t.side - a.base) a.spare_words.now g.new.1.1.1.1.1.1.0 g.auto.1.1.1.1.1.1.0
-
-pub shape_of-spare_marks : goal.shape_of-spare_marks
-shape_of-spare_marks c =
-    let a = c.args in let g = c.run_group in same_len_mid {X = ℕ} a.base (a.base + groups a.t.side - a.base) a.spare_marks.now g.new.1.1.1.1.1.1.1.0 g.auto.1.1.1.1.1.1.1.0
-
-pub shape_of-spare_aims : goal.shape_of-spare_aims
-shape_of-spare_aims c =
-    let a = c.args in let g = c.run_group in same_len_mid {X = ℕ} a.base (a.base + groups a.t.side - a.base) a.spare_aims.now g.new.1.1.1.1.1.1.1.1.0 g.auto.1.1.1.1.1.1.1.1.0
+    let z = part_sized b (b + n - b) c.requires.long (omega (arith, c.requires.within)) in
+    record { ruled = c.requires.ruled; roomy = record { long = c.requires.roomy.long; room = c.requires.roomy.room }; long = omega (arith, k, z) }
 
 pub returns : goal.returns
 returns c =
@@ -144,9 +116,8 @@ returns c =
     let b = c.args.base in
     let g = c.run_group in
     let k : b + n - b ≡ n = omega arith in
-    let f : b + (b + n - b) ≤ cells c.args.t.side = omega (arith, c.requires.side_bound) in
+    let f : b + (b + n - b) ≤ cells c.args.t.side = omega (arith, c.requires.within) in
     let z = part_sized b (b + n - b) c.requires.long f in
-    let l = g.new.1.1.1 in
-    let y : Sized (b + n - b) l.0 l.1.0 l.1.1.0 l.1.1.1.0 l.1.1.1.1.0 l.1.1.1.1.1.0 = omega (arith, z, g.auto) in
+    let y : Sized (b + n - b) g.new.words g.new.marks g.new.aims g.new.spare_words g.new.spare_marks g.new.spare_aims = omega (arith, z, g.auto) in
     part-ran c.args.t (known c.requires.ruled.0).least c.requires.ruled.1 c.requires.by_index.0 b (b + n - b) c.requires.long f k c.requires.by_index.1 y
     refl refl g.ensures

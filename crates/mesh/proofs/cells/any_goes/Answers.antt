@@ -1,6 +1,5 @@
-use Prim.Native.Nat.{◌-◌}
 use mathlib.Core.Path.{sym, ap, ◌∙◌}
-use mathlib.Core.Bool.{true, not}
+use mathlib.Core.Bool.{not}
 use native.Mathlib.Omega.{arith}
 use Rattle.mesh.specs.Inside.{slots_at}
 use Rattle.mesh.proofs.Slots.{leaves-start, leaves_some, leaves_none, leaves_all}

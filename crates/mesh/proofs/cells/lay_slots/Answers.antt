@@ -1,4 +1,4 @@
-use Prim.Native.Nat.{◌+◌, ◌-◌, ◌*◌}
+use Prim.Native.Nat.{◌+◌, ◌*◌}
 use mathlib.Core.Path.{sym, ◌∙◌}
 use native.Mathlib.Omega.{arith}
 use lib.ListN.{length-set}
@@ -7,7 +7,7 @@ use Rattle.mesh.proofs.Slots.{laid_start, laid_step, laid_end}
 use Rattle.mesh.proofs.cells.lay_slots.Goals as goal
 
 pub loop-p-init : goal.loop-p-init
-loop-p-init c = let s = c.requires in (s.1.words, s.1.marks, s.1.aims, omega arith, laid_start _ _ _ _)
+loop-p-init c = let s = c.requires.has_slots in (s.words, s.marks, s.aims, omega arith, laid_start _ _ _ _)
 
 pub overflow_mul-at : goal.overflow_mul-at
 overflow_mul-at c = let z = c.requires.lies in omega (arith, z.inside _ c.loop-p-test.true, z.short)

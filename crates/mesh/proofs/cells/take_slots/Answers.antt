@@ -1,8 +1,6 @@
-use Prim.Native.Nat.{◌-◌}
 use mathlib.Core.Path.{refl}
 use native.Mathlib.Omega.{arith}
 use Rattle.mesh.proofs.Slots.{taking-start, taking_step, taking-end}
-use Rattle.slots.proofs.empty.Reads as empty-reads
 use Rattle.mesh.proofs.cells.take_slots.Goals as goal
 
 pub loop-p-init : goal.loop-p-init

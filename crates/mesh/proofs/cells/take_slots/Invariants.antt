@@ -1,7 +1,6 @@
 use Prim.Native.Nat.{◌-◌}
 use Rattle.slots.specs.Cells.{record_in}
 use Rattle.mesh.proofs.Slots.{Taking}
-use Rattle.slots.proofs.empty.Reads as empty-reads
 use Rattle.mesh.proofs.cells.take_slots.Given as goal
 
 abbrev pub invariant-loop-p : goal.invariant-loop-p

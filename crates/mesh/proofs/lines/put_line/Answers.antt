@@ -1,12 +1,9 @@
-use Prim.Native.Nat.{◌-◌}
 use mathlib.Core.Path.{refl, sym, ◌∙◌}
-use mathlib.Core.Logic.{⊎_elim}
 use native.Mathlib.Omega.{arith}
 use Rattle.mesh.proofs.Ruling.{known}
 use Rattle.mesh.proofs.Laying.{settling_start, settling_none, settling_step, settling_few, settling_end, arrives_some, cell_in, no_cells, went_one}
-use Rattle.slots.proofs.empty.Reads as empty-reads
-use Rattle.slots.proofs.joined.Reads as joined-reads
 use Rattle.mesh.proofs.lines.put_line.Goals as goal
+use Rattle.mesh.proofs.lines.put_line.Goals.{then-x-ne0, else-x-ne0}
 
 pub overflow_mul-n : goal.overflow_mul-n
 overflow_mul-n c = omega (arith, (known c.requires.ruled).most)
@@ -36,7 +33,7 @@ pub landing-arrival-requires : goal.landing-arrival-requires
 landing-arrival-requires c =
     let z = c.requires.ruled in
     let k = (known z).most in
-    (((cell_in c.loop-k-test.true c.loop-k.invariant.0 k).0, c.digit.ensures.1), (k, z.within))
+    record { on_line = ((cell_in c.loop-k-test.true c.loop-k.invariant.0 k).0, c.digit.ensures.1); few = (k, z.within) }
 
 pub offset_bounds-counts-far : goal.offset_bounds-counts-far
 offset_bounds-counts-far c = omega (arith, c.landing-arrival.ensures.few)
@@ -84,10 +81,11 @@ loop-k-preserved c =
     let k = (known c.requires.ruled).most in
     let e = c.slot-x.ensures in (
       i.0,
-      ⊎_elim
-          (λ w. rw (w.7, w.8) (settling_step (omega (arith, h, i.0)) k e (arrives_some w.0.taken w.1.ensures.0 w.2.ensures) refl w.6.ensures i.1))
-          (λ w. rw (w.1, w.2) (settling_none (omega (arith, h, i.0)) e w.0.left i.1))
-          c.if-x-ne0.branch,
+      elim c.if-x-ne0.branch [
+        | then-x-ne0 w ↦ rw (w.counts-is, w.line-is)
+            (settling_step (omega (arith, h, i.0)) k e (arrives_some w.if-x-ne0.true w.digit.ensures.0 w.landing-arrival.ensures) refl w.joined.ensures i.1)
+        | else-x-ne0 w ↦ rw (w.counts-is, w.line-is) (settling_none (omega (arith, h, i.0)) e w.if-x-ne0.false i.1)
+      ],
     )
 
 pub shape_of-counts : goal.shape_of-counts

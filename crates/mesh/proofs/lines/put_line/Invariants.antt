@@ -2,8 +2,6 @@ use Prim.Native.Nat.{◌-◌, ◌*◌}
 use mathlib.Core.Path.{◌≡◌}
 use Rattle.mesh.specs.Inside.{cells_of}
 use Rattle.mesh.proofs.Laying.{Settling}
-use Rattle.slots.proofs.empty.Reads as empty-reads
-use Rattle.slots.proofs.joined.Reads as joined-reads
 use Rattle.mesh.proofs.lines.put_line.Given as goal
 
 abbrev pub invariant-loop-k : goal.invariant-loop-k

@@ -5,52 +5,27 @@ use Rattle.mesh.proofs.lines.run_line.Goals as goal
 
 pub line_goes-requires : goal.line_goes-requires
 line_goes-requires c =
-    let s = c.requires in let z = s.1.1 in (s.0, ((z.marks, z.aims), (z.marks2, z.aims2)))
+    let s = c.requires in let z = s.long in record { ruled = s.ruled; marks_len = (z.marks, z.aims); spare_marks_len = (z.marks2, z.aims2) }
 
 pub take_slots-fronts-requires : goal.take_slots-fronts-requires
 take_slots-fronts-requires c =
-    let s = c.requires in let z = s.1.1 in (s.0.1, record { words = z.words; marks = z.marks; aims = z.aims })
+    let s = c.requires in let z = s.long in record { lies = s.ruled.1; has_slots = record { words = z.words; marks = z.marks; aims = z.aims } }
 
 pub take_slots-spares-requires : goal.take_slots-spares-requires
 take_slots-spares-requires c =
-    let s = c.requires in let z = s.1.1 in (s.0.1, record { words = z.words2; marks = z.marks2; aims = z.aims2 })
+    let s = c.requires in let z = s.long in record { lies = s.ruled.1; has_slots = record { words = z.words2; marks = z.marks2; aims = z.aims2 } }
 
 pub put_line-line-requires : goal.put_line-line-requires
 put_line-line-requires c =
-    let s = c.requires in (s.0.0, record { long = s.1.0.long; room = s.1.0.room })
+    let s = c.requires in record { ruled = s.ruled.0; roomy = record { long = s.roomy.long; room = s.roomy.room } }
 
 pub lay_slots-requires : goal.lay_slots-requires
 lay_slots-requires c =
-    let s = c.requires in let z = s.1.1 in (s.0.1, record { words = z.words; marks = z.marks; aims = z.aims })
+    let s = c.requires in let z = s.long in record { lies = s.ruled.1; has_slots = record { words = z.words; marks = z.marks; aims = z.aims } }
 
 pub lay_slots-requires-then-line_goes : goal.lay_slots-requires-then-line_goes
 lay_slots-requires-then-line_goes c =
-    let s = c.requires in let z = s.1.1 in (s.0.1, record { words = z.words2; marks = z.marks2; aims = z.aims2 })
-
-pub shape_of-counts : goal.shape_of-counts
-shape_of-counts c =
-    c.put_line-line.auto.1.1.1.1.0
-
-pub shape_of-words : goal.shape_of-words
-shape_of-words c =
-    c.lay_slots.auto.1.1.1.1.1.0
-
-pub shape_of-marks-then-line_goes : goal.shape_of-marks-then-line_goes
-shape_of-marks-then-line_goes c =
-    c.lay_slots.auto.1.1.1.1.1.1.0
-
-pub shape_of-aims-then-line_goes : goal.shape_of-aims-then-line_goes
-shape_of-aims-then-line_goes c =
-    c.lay_slots.auto.1.1.1.1.1.1.1.0
-
-pub shape_of-spare_words : goal.shape_of-spare_words
-shape_of-spare_words c = c.lay_slots-then-line_goes.auto.1.1.1.1.1.0
-
-pub shape_of-spare_marks-then-line_goes : goal.shape_of-spare_marks-then-line_goes
-shape_of-spare_marks-then-line_goes c = c.lay_slots-then-line_goes.auto.1.1.1.1.1.1.0
-
-pub shape_of-spare_aims-then-line_goes : goal.shape_of-spare_aims-then-line_goes
-shape_of-spare_aims-then-line_goes c = c.lay_slots-then-line_goes.auto.1.1.1.1.1.1.1.0
+    let s = c.requires in let z = s.long in record { lies = s.ruled.1; has_slots = record { words = z.words2; marks = z.marks2; aims = z.aims2 } }
 
 pub returns-then-line_goes : goal.returns-then-line_goes
 returns-then-line_goes c =
