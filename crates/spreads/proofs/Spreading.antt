@@ -12,7 +12,7 @@ use Rattle.lists.specs.Lists.{broadcast_list, data_sum_runs}
 use Rattle.array.specs.declared.moves.Way.TheVariants.{Right, Left, Up, Down}
 use Rattle.lanes.specs.Machine.{State, Rule, from_before, from_after, all, made, stage_runs, at, load, unload}
 use Rattle.sums.specs.Sums.{plus}
-use Rattle.lanes.specs.Stages.{front, copy}
+use Rattle.lanes.specs.Stages.{front, from, word, copy}
 use Rattle.spreads.specs.Programs.{spread, broadcast, group_sum, data_sum}
 use Rattle.spreads.specs.Results.{broadcast_words, data_sum_words}
 use Rattle.lanes.proofs.Coordinates.{c_in, d_in, a_in, b_in, at_is, unload-same, sum-cells}
@@ -23,12 +23,12 @@ use Rattle.lanes.proofs.Lines as lines
 before_copy : (e n : ℕ) (f : ℕ → ℕ) (p : ℕ) → e ≤ p → p ≤ e + n → line from_before (λ k. front copy (e + suc k)) n f p ≡ f e
 before_copy e n f p h h' =
     let q : e + (p - e) ≡ p = omega arith in
-    (rw q at (before_on copy e n f (p - e) (omega arith))) ∙ acc-copy _ (p - e) ∙ ap f (omega arith)
+    (rw q at (before_on copy e n f (p - e) (omega arith))) ∙ acc-copy (λ i. f (e + i)) (p - e) ∙ ap f {x = e + 0} (omega arith)
 
 after-copy : (s e n : ℕ) → e < s → n ≤ e → (f : ℕ → ℕ) (p : ℕ) → e - n ≤ p → p ≤ e → line (from_after s) (λ k. front copy (e - suc k)) n f p ≡ f e
 after-copy s e n l l' f p h h' =
     let q : e - (e - p) ≡ p = omega arith in
-    (rw q at (after_on copy s e n l l' f (e - p) (omega arith))) ∙ acc-copy _ (e - p) ∙ ap f (omega arith)
+    (rw q at (after_on copy s e n l l' f (e - p) (omega arith))) ∙ acc-copy (λ i. f (e - i)) (e - p) ∙ ap f {x = e - 0} (omega arith)
 
 -- to both sides of e
 line-copied : (s e : ℕ) (f : ℕ → ℕ) → e < s → (p : ℕ) → p < s
@@ -47,7 +47,7 @@ line-summed s f g h p l =
     after-copy s (s - 1) (s - 1) (omega arith) (omega arith) _ p (omega arith) (omega arith)
     ∙ ap (line from_before (λ k. front plus (0 + suc k)) (s - 1) f) (omega arith)
     ∙ before_on plus 0 (s - 1) f (s - 1) (omega arith)
-    ∙ acc-plus _ g (s - 1) (λ i l'. ap f (zero-add i) ∙ h i (omega arith)) ∙ ap (λ n. sum n g % (2 ^ 32)) q
+    ∙ acc-plus (λ i. f (0 + i)) g (s - 1) (λ i l'. ap f (zero-add i) ∙ h i (omega arith)) ∙ ap (λ n. sum n g % (2 ^ 32)) q
 
 -- two stages along rows, or along columns, are two runs along each line
 module _ (s : ℕ) (σ : State ℕ) (c d : ℕ) (ρ ρ' : ℕ → Rule ℕ ℕ) (k k' : ℕ) where
@@ -78,15 +78,15 @@ module _ (s : ℕ) (σ : State ℕ) (c d : ℕ) (ρ ρ' : ℕ → Rule ℕ ℕ) 
 module _ (s : ℕ) (σ : State ℕ) (c d : ℕ) where
   spread-all : (a b : ℕ) → a < s → b < s → (i j : ℕ) → i < s → j < s → made s (spread s a b) σ c d i j ≡ σ c d a b
   spread-all a b ha hb i j hi hj =
-      up-down s _ c d _ _ a (s - 1 - a) i j ∙ line-copied s a _ ha i hi
-      ∙ left-right s σ c d _ _ b (s - 1 - b) a j ∙ line-copied s b _ hb j hj
+      up-down s _ c d (from Up word copy a a).rule (from Down word copy a (s - 1 - a)).rule a (s - 1 - a) i j ∙ line-copied s a _ ha i hi
+      ∙ left-right s σ c d (from Left word copy b b).rule (from Right word copy b (s - 1 - b)).rule b (s - 1 - b) a j ∙ line-copied s b _ hb j hj
 
   group_sum-all : (w : ℕ → ℕ → ℕ) → ((i j : ℕ) → i < s → j < s → σ c d i j ≡ w i j % (2 ^ 32))
       → (i j : ℕ) → i < s → j < s → made s (group_sum s) σ c d i j ≡ sum s (λ a. sum s (λ b. w a b)) % (2 ^ 32)
   group_sum-all w h i j hi hj =
-      down-up s _ c d _ _ (s - 1) (s - 1) i j
+      down-up s _ c d (from Down word plus 0 (s - 1)).rule (from Up word copy (s - 1) (s - 1)).rule (s - 1) (s - 1) i j
       ∙ line-summed s _ (λ a. sum s (w a))
-      (λ a ha. right-left s σ c d _ _ (s - 1) (s - 1) a j ∙ line-summed s _ (w a) (λ b hb. h a b ha hb) j hj) i hi
+      (λ a ha. right-left s σ c d (from Right word plus 0 (s - 1)).rule (from Left word copy (s - 1) (s - 1)).rule (s - 1) (s - 1) a j ∙ line-summed s _ (w a) (λ b hb. h a b ha hb) j hj) i hi
 
 -- every word becomes that of the source
 pub broadcast-all : (s : ℕ) (l : List ℕ) (i : ℕ) → 1 ≤ s → i < cells s → unload s (made s (broadcast s i) (load s l)) ≡ broadcast_words s i l

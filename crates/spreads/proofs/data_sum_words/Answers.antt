@@ -1,4 +1,5 @@
 -- `spreads::data_sum_words` meets its contract: on a board the lane holds the sum; else it is left.
+use borrow.Author.Rules.{rules}
 use Rattle.lanes.proofs.Held.{board_known}
 use Rattle.spreads.proofs.Composing.{data_sum_done}
 use Rattle.laws.proofs.Bools.{failed, passed}
@@ -12,4 +13,4 @@ sum_all-requires c = (board_known _ _ (passed c.is_board.ensures c.if-not-is_boa
 
 pub returns : goal.returns
 returns c =
-    data_sum_done _ _ _ (passed c.is_board.ensures c.if-not-is_board.false) (λ i. (c.slice_known-1.given i).fits) c.sum_all.ensures
+    data_sum_done _ _ _ (passed c.is_board.ensures c.if-not-is_board.false) (search rules) c.sum_all.ensures
