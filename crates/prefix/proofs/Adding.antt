@@ -231,13 +231,13 @@ module _ (s : ℕ) {σ w : State ℕ} (h : Reduced s σ w) where
   copy-left : Reduced s (copied s Left σ) (λ c d a b. w c d a (s - 1))
   copy-left = record {
     is = λ c d a b hc hd ha hb.
-        left-all copy s σ c d a b hb ∙ acc-copy _ (s - 1 - b) ∙ ap (σ c d a) (omega arith) ∙ h.is c d a (s - 1) hc hd ha (omega arith);
+        left-all copy s σ c d a b hb ∙ acc-copy (λ j. σ c d a (s - 1 - j)) (s - 1 - b) ∙ ap (σ c d a) {x = s - 1 - 0} (omega arith) ∙ h.is c d a (s - 1) hc hd ha (omega arith);
   }
 
   copy-up : Reduced s (copied s Up σ) (λ c d a b. w c d (s - 1) b)
   copy-up = record {
     is = λ c d a b hc hd ha hb.
-        up-all copy s σ c d a b ha ∙ acc-copy _ (s - 1 - a) ∙ ap (λ i. σ c d i b) (omega arith) ∙ h.is c d (s - 1) b hc hd (omega arith) hb;
+        up-all copy s σ c d a b ha ∙ acc-copy (λ i. σ c d (s - 1 - i) b) (s - 1 - a) ∙ ap (λ i. σ c d i b) {x = s - 1 - 0} (omega arith) ∙ h.is c d (s - 1) b hc hd (omega arith) hb;
   }
 
 -- the numbers that the lanes hold: the sums of a group's rows up to a cell, as they come by light; the groups before

@@ -1,5 +1,5 @@
 -- The registers of prefix sum: five words, after every single move, and a word is handed on in each.
-use Prim.Native.Nat.{ℕ, ◌-◌, ◌^◌}
+use Prim.Native.Nat.{ℕ, ◌-◌}
 use mathlib.Core.List.{List}
 use native.Mathlib.Omega.{arith}
 use lib.ListN.{get_or}
@@ -8,7 +8,7 @@ use Rattle.sums.specs.Sums.{plus}
 use Rattle.lanes.specs.Machine.{at, load}
 use Rattle.lanes.specs.Registers.{IsWord, Registers}
 use Rattle.lanes.proofs.Registers.{KeepAll, no_more, ◌and◌, Joins, from_keeping, light_keeping, plus-word, minus-word, registers_kept}
-use Rattle.prefix.specs.Programs.{Sums, FiveWords, load_sums, add_row, add_column, take_group, add_groups, add_group_rows, rows_above, take_above, groups_before, take_before, row_before, take_row, prefix_sum}
+use Rattle.prefix.specs.Programs.{FiveWords, load_sums, add_row, add_column, take_group, add_groups, add_group_rows, rows_above, take_above, groups_before, take_before, row_before, take_row, prefix_sum}
 
 -- what each step hands on and joins, in the order of the steps
 rows_added : Joins FiveWords IsWord (λ o. o.r) add_row

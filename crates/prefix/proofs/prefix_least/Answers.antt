@@ -1,5 +1,6 @@
 -- `prefix::prefix_least` meets its contract: on a board of side 2 at most the lane holds the prefix sums; else it is left.
 use borrow.Author.Tests.{lt-ltb, le-ltb}
+use borrow.Author.Rules.{rules}
 use lib.ListN.{length}
 use Rattle.laws.proofs.Bools.{failed, passed}
 use Rattle.lanes.proofs.Held.{board_known}
@@ -14,9 +15,9 @@ returns-then-not-is_board c = rw (le-ltb _ _ c.if-words-gt16.false) (rw (failed 
 
 pub sum_least-requires : goal.sum_least-requires
 sum_least-requires c =
-    (board_known _ _ (passed c.is_board.ensures c.if-not-is_board.false), c.if-words-gt16.false)
+    record { fits_board = board_known _ _ (passed c.is_board.ensures c.if-not-is_board.false); words_len_bound = c.if-words-gt16.false }
 
 pub returns : goal.returns
 returns c =
     rw (le-ltb _ _ c.if-words-gt16.false)
-    (prefix_done _ _ _ (passed c.is_board.ensures c.if-not-is_board.false) (λ i. (c.slice_known-1.given i).fits) c.sum_least.ensures)
+    (prefix_done _ _ _ (passed c.is_board.ensures c.if-not-is_board.false) (search rules) c.sum_least.ensures)

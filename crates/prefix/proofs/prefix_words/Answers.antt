@@ -1,4 +1,5 @@
 -- `prefix::prefix_words` meets its contract: on a board the lane holds the prefix sums; else it is left.
+use borrow.Author.Rules.{rules}
 use Rattle.lanes.proofs.Held.{board_known}
 use Rattle.prefix.proofs.Composing.{prefix_done}
 use Rattle.laws.proofs.Bools.{failed, passed}
@@ -12,4 +13,4 @@ sum_up-requires c = board_known _ _ (passed c.is_board.ensures c.if-not-is_board
 
 pub returns : goal.returns
 returns c =
-    prefix_done _ _ _ (passed c.is_board.ensures c.if-not-is_board.false) (λ i. (c.slice_known-1.given i).fits) c.sum_up.ensures
+    prefix_done _ _ _ (passed c.is_board.ensures c.if-not-is_board.false) (search rules) c.sum_up.ensures
