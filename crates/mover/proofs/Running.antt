@@ -163,7 +163,7 @@ module _ (trip : Trip) {s : ℕ} (pos : 0 < s) {T U : ℕ → Cell} (same : (i :
 pub after_same : (trip : Trip) {s : ℕ} → 0 < s → (rs : List Run) (swaps k : ℕ) (T U : ℕ → Cell) → ((i : ℕ) → i < cells s → T i ≡ U i)
     → ((i : ℕ) → i < cells s → after trip s rs swaps k T i ≡ after trip s rs swaps k U i) × (moved_log trip s rs swaps k T ≡ moved_log trip s rs swaps k U)
 unfolding after moved_log
-after_same trip pos [] swaps k T U e = (e, refl)
+after_same trip _ [] swaps k T U e = (e, refl)
 after_same trip {s} pos (r ∷ rs) swaps k T U e =
     let m = made_of r k in
     let z = after_same trip pos rs (swaps + swaps_in r.step m) (k - m) (ran_by trip s swaps r.step r.times m T) (ran_by trip s swaps r.step r.times m U) (by_same trip pos e swaps r.step r.times m) in

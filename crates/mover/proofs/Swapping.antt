@@ -1,14 +1,12 @@
 -- Swaps of six lanes by what they do to their cells: every cell holds what its partner held.
 use Prim.Native.Nat.{ℕ, zero, suc, ◌+◌, ◌≤◌, ◌<◌}
 use mathlib.Core.Path.{◌≡◌, refl, sym, ap, ap₂, ◌∙◌}
-use mathlib.Core.Logic.{⊎_elim}
 use mathlib.Core.Bool.{Bool, true, false, cond}
 use mathlib.Core.List.{List}
 use native.Mathlib.Omega.{arith}
-use borrow.Author.Tests.{eq-eqb, ne_eqb}
+use borrow.Author.Tests.{eq-eqb}
 use lib.Dec.{eqb}
 use lib.ListN.{length, get_or}
-use Rattle.laws.proofs.Deciding.{same?}
 use Rattle.laws.proofs.Sums.{sum_cong}
 use Rattle.laws.proofs.Totals.{sum_few, sum-plus}
 use Rattle.laws.proofs.Tables.{entry_at, length-entries}

@@ -110,7 +110,7 @@ struct Tally {
 // Writes the counts of the moves that were made of a run of so many, from a place of the log on.
 fn log_run(trip: Trip, times: usize, from: usize, tally: Tally, moved: &mut [u16])
     requires few_went { FewWent tally.went × (from + tally.made < 18446744073709551616) }
-    requires by_index { (j : ℕ) → j < tally.made → tallied (is_late trip) times tally j ≤ 65535 }
+    requires few_counts { (j : ℕ) → j < tally.made → tallied (is_late trip) times tally j ≤ 65535 }
     ensures { new moved ≡ sets moved.old from (entries (tallied (is_late trip) times tally) 0 tally.made) }
 {
     let late = is_late(trip);
@@ -138,7 +138,7 @@ fn make_run(
     spare_marks: &mut [u8],
     spare_aims: &mut [u16],
 ) -> Tally
-    requires side_value { is_side side ≡ true }
+    requires a_side { is_side side ≡ true }
     requires long { Long (cells side) words marks aims spare_words spare_marks spare_aims }
     ensures { FromTo (MadeRun trip side swaps run remaining result) words marks aims spare_words spare_marks spare_aims }
 {

@@ -1,4 +1,3 @@
-use Rattle.runs.proofs.electronic_in.Reads as electronic-in-reads
 use Rattle.mover.proofs.leg_of.Goals as goal
 
 pub returns : goal.returns

@@ -1,4 +1,4 @@
-use Prim.Native.Nat.{ℕ, ◌+◌, ◌-◌, ◌≤◌}
+use Prim.Native.Nat.{ℕ, ◌+◌, ◌≤◌}
 use mathlib.Core.Path.{refl, ap, ◌∙◌}
 use mathlib.Core.Bool.{Bool}
 use native.Mathlib.Omega.{arith}
@@ -16,7 +16,7 @@ movers-requires c = c.requires.few_went.0
 
 pub overflow_add-count : goal.overflow_add-count
 overflow_add-count c =
-    let few : tallied c.is_late-late.result c.args.times c.args.tally c.loop-j.j ≤ 65535 = rw c.is_late-late.ensures (c.requires.by_index c.loop-j.j c.loop-j-test.true) in
+    let few : tallied c.is_late-late.result c.args.times c.args.tally c.loop-j.j ≤ 65535 = rw c.is_late-late.ensures (c.requires.few_counts c.loop-j.j c.loop-j-test.true) in
     omega (arith, c.movers.ensures, few)
 
 pub overflow_add-from : goal.overflow_add-from
@@ -25,7 +25,7 @@ overflow_add-from c =
 
 pub log_count-requires : goal.log_count-requires
 log_count-requires c =
-    let few : tallied c.is_late-late.result c.args.times c.args.tally c.loop-j.j ≤ 65535 = rw c.is_late-late.ensures (c.requires.by_index c.loop-j.j c.loop-j-test.true) in
+    let few : tallied c.is_late-late.result c.args.times c.args.tally c.loop-j.j ≤ 65535 = rw c.is_late-late.ensures (c.requires.few_counts c.loop-j.j c.loop-j-test.true) in
     omega (arith, c.movers.ensures, few)
 
 pub overflow_add-j : goal.overflow_add-j

@@ -1,4 +1,3 @@
-use Prim.Native.Nat.{◌-◌}
 use native.Mathlib.Omega.{arith}
 use Rattle.mover.proofs.Running.{adding_start, adding_next, adding_end}
 use Rattle.mover.proofs.movers.Goals as goal

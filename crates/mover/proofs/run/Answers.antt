@@ -1,4 +1,3 @@
-use Prim.Native.Nat.{◌-◌}
 use mathlib.Core.Path.{refl, sym, ◌∙◌}
 use native.Mathlib.Omega.{arith}
 use Rattle.laws.proofs.Bools.{passed, failed}
@@ -28,13 +27,13 @@ overflow_sub-cut c = omega (arith, c.loop-q.invariant.4.upto)
 
 pub make_run-tally-requires : goal.make_run-tally-requires
 make_run-tally-requires c =
-    let i = c.loop-q.invariant in (i.0.side, i.1)
+    let i = c.loop-q.invariant in record { a_side = i.0.side; long = i.1 }
 
 pub log_run-requires : goal.log_run-requires
 log_run-requires c =
     let i = c.loop-q.invariant in
     let y = c.make_run-tally.ensures in
-    ((run_went i.0.side y, omega (arith, run_few i.0.side y, i.4.upto, c.ranges.cut)), run_counts i.0.side y)
+    record { few_went = (run_went i.0.side y, omega (arith, run_few i.0.side y, i.4.upto, c.ranges.cut)); few_counts = run_counts i.0.side y }
 
 pub overflow_add-swaps : goal.overflow_add-swaps
 overflow_add-swaps c =
