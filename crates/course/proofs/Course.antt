@@ -1,7 +1,7 @@
 -- A list of moves, made on cells that show records: after each move they show them where it takes them, and its count is of those in another cell.
 use Prim.Native.Nat.{ℕ, zero, suc, ◌+◌, ◌-◌, ◌≤◌, ◌<◌}
 use mathlib.Core.Path.{◌≡◌, refl, sym, ap, ap₂, ◌∙◌, subst}
-use mathlib.Core.Logic.{◌⊎◌, ⊎_elim}
+use mathlib.Core.Logic.{⊎_elim}
 use mathlib.Core.Bool.{cond}
 use mathlib.Core.List.{List, [], ◌∷◌, ◌++◌}
 use native.Mathlib.Nat.{add-zero, add-suc, min-le_left, min-le_right, min-eq_left, min-eq_right}
@@ -193,7 +193,7 @@ module _ {trip : Trip} {s b : ℕ} {R : ℕ → Rec} (some : 0 < s) where
   unfolding after
   course_shows {rs = []} {pos = pos} c h o = shows_same (λ q u. ap (λ (k : ℕ). pos k q) (omega arith)) o
   course_shows {rs = r ∷ rs} {n = n} {pos = pos} c h o =
-      shows_same (λ q u. ap (λ (k : ℕ). pos k q) (whole c)) (course_shows (others c) (omega arith) (begun c o))
+      shows_same (λ q u. ap (λ (k : ℕ). pos k q) (whole c)) (course_shows {rs = rs} (others c) (omega arith) (begun c o))
 
   pub course_counts : {rs : List Run} {swaps n : ℕ} {pos : ℕ → ℕ → ℕ} {T : ℕ → Cell} → Course trip s rs swaps n b R pos → n ≤ times_of rs → Shows s b R (pos 0) T
       → moved_log trip s rs swaps n T ≡ entries (λ k. changed b (pos k) (pos (suc k))) 0 n
@@ -202,7 +202,7 @@ module _ {trip : Trip} {s b : ℕ} {R : ℕ → Rec} (some : 0 < s) where
       let e : 0 ≡ n = omega arith in
       ap {B = List ℕ} (λ (n : ℕ). entries (λ k. changed b (pos k) (pos (suc k))) 0 n) e
   course_counts {rs = r ∷ rs} {n = n} {pos = pos} c h o =
-      ap₂ {C = List ℕ} (λ x y. x ++ y) (entries_cong (m c) (run_counts some o r.step (part c))) (course_counts (others c) (omega arith) (begun c o))
+      ap₂ {C = List ℕ} (λ x y. x ++ y) (entries_cong (m c) (run_counts some o r.step (part c))) (course_counts {rs = rs} (others c) (omega arith) (begun c o))
       ∙ entries_parts (λ k. changed b (pos k) (pos (suc k))) (λ k. changed b (pos (m c + k)) (pos (m c + suc k))) 0 (m c) (n - m c)
       (λ k u.
       let e : m c + k ≡ 0 + m c + k = omega arith in
