@@ -49,7 +49,7 @@ pub shift_lanes : (s : ℕ) (w : Way) (edge : Edge) (forth around : ℕ) {l l₁
 shift_lanes s w edge forth around {l} {l₁} {l₂} {b} {b₁} {b₂} v hf hh o e x y f = record {
   so = λ σ τ h k.
       rw f (chosen-lane s w edge forth around (ran-lane s w Fill 0 forth (omega arith) hf x h)
-      (ran-lane s (opposite w) Fill 0 around (omega arith) hh (rw o at y) (combined_lane s Take e k h)));
+      (ran-lane s (opposite w) Fill 0 around (omega arith) hh (y ∙ ap (λ (u : Way). ran_words s u Fill 0 around b₁) o) (combined_lane s Take e k h)));
 }
 
 -- a scratch lane as long as the words

@@ -1,5 +1,5 @@
 -- The registers of a shift: two words, after every single move, and a word is handed on in each.
-use Prim.Native.Nat.{ℕ, ◌^◌}
+use Prim.Native.Nat.{ℕ}
 use mathlib.Core.Bool.{Bool, true, false, cond}
 use mathlib.Core.Option.{Option, none, some}
 use mathlib.Core.List.{List}
@@ -13,7 +13,7 @@ use Rattle.lanes.specs.Machine.{at, load}
 use Rattle.lanes.specs.Stages.{position, filled}
 use Rattle.lanes.specs.Registers.{IsWord, IfAny, Registers}
 use Rattle.lanes.proofs.Registers.{KeepAll, no_more, ◌and◌, Joins, light_keeping, registers_kept}
-use Rattle.shifts.specs.Programs.{Shifting, TwoWords, load_shift, takes_back, swap_shift, shift}
+use Rattle.shifts.specs.Programs.{TwoWords, load_shift, takes_back, swap_shift, shift}
 
 -- 0 is a word, where nothing came
 filled-word : (got : Option ℕ) → IfAny IsWord got → IsWord (filled got)

@@ -22,6 +22,8 @@ use Rattle.shiftlists.specs.Shifts.{distance_of, within, modulo, is_nothing, for
 use Rattle.shiftlists.proofs.Counts.{modulo-nothing}
 use Rattle.shiftlists.proofs.Within.{within_known}
 use Rattle.lanes.specs.Machine.{State, Stage, from_before, from_after, ran, all, stage_runs, load, unload}
+use Rattle.lanes.specs.declared.Joining.TheVariants.{Fill}
+use Rattle.lanes.specs.Runs.{running}
 use Rattle.lanes.specs.Stages.{position, filled}
 use Rattle.shifts.specs.Programs.{Shifting, load_shift, forth, takes_back, back, shift, shifted_by}
 use Rattle.shifts.specs.Results.{came_from, word_from, shifted, shift_words}
@@ -60,16 +62,16 @@ line-back s f (suc k) p h = go (dec_lt (suc p) s) (line-back s f k (suc p))
 
 module _ (s : ℕ) (σ : State ℕ) (k c d a b : ℕ) where
   slide-right : slide s Right k σ c d a b ≡ shifted_on k (σ c d a) b
-  slide-right = ap (λ (g : ℕ → ℕ). g b) (lines.right s k _ σ c d k a) ∙ line_on (σ c d a) k b
+  slide-right = ap (λ (g : ℕ → ℕ). g b) (lines.right s k (running Right Fill 0 k).rule σ c d k a) ∙ line_on (σ c d a) k b
 
   slide-down : slide s Down k σ c d a b ≡ shifted_on k (λ i. σ c d i b) a
-  slide-down = ap (λ (g : ℕ → ℕ). g a) (lines.down s k _ σ c d k b) ∙ line_on (λ i. σ c d i b) k a
+  slide-down = ap (λ (g : ℕ → ℕ). g a) (lines.down s k (running Down Fill 0 k).rule σ c d k b) ∙ line_on (λ i. σ c d i b) k a
 
   slide-left : b < s → slide s Left k σ c d a b ≡ shifted_back s k (σ c d a) b
-  slide-left h = ap (λ (g : ℕ → ℕ). g b) (lines.left s k _ σ c d k a) ∙ line-back s (σ c d a) k b h
+  slide-left h = ap (λ (g : ℕ → ℕ). g b) (lines.left s k (running Left Fill 0 k).rule σ c d k a) ∙ line-back s (σ c d a) k b h
 
   slide-up : a < s → slide s Up k σ c d a b ≡ shifted_back s k (λ i. σ c d i b) a
-  slide-up h = ap (λ (g : ℕ → ℕ). g a) (lines.up s k _ σ c d k b) ∙ line-back s (λ i. σ c d i b) k a h
+  slide-up h = ap (λ (g : ℕ → ℕ). g a) (lines.up s k (running Up Fill 0 k).rule σ c d k b) ∙ line-back s (λ i. σ c d i b) k a h
 
 abbrev shift_state : ℕ → Axis → Edge → Distance → State ℕ → State ℕ
 shift_state s axis edge k σ = shift_on s axis edge (forth_moves edge s k) (back_moves edge s k) σ
@@ -111,7 +113,7 @@ module _ (s : ℕ) (w : Way) (edge : Edge) (k : Distance) (σ : State ℕ) where
   y₂ : (n : ℕ) → lane (λ o. o.y) (ran s back_stage n σ₁) ≡ ran s (plain (opposite w) (back_moves edge s k) (λ k c d a b own got. filled got)) n σ
   unfolding back_stage
   y₂ n =
-      ran_view (λ o. o.y) (along (opposite w) (back_moves edge s k)) _ (λ n c d a b own got. filled got) (λ n c d a b o g. refl) s n σ₁
+      ran_view (λ o. o.y) (along (opposite w) (back_moves edge s k)) back_stage.rule (λ n c d a b own got. filled got) (λ n c d a b o g. refl) s n σ₁
       ∙ ap (ran s (plain (opposite w) (back_moves edge s k) (λ k c d a b own got. filled got)) n) y₁
 
   x₂ : (n c d a b : ℕ) → (ran s back_stage n σ₁ c d a b).x

@@ -1,8 +1,6 @@
 -- `shifts::choose` meets its contract: cell by cell, by `Renewed`, with the spot of each by `Spotted`.
-use Prim.Native.Nat.{◌-◌}
 use native.Mathlib.Omega.{arith}
 use mathlib.Core.Path.{◌∙◌}
-use Rattle.shifts.specs.Inside.{takes}
 use Rattle.sums.proofs.Renewing.{renewed_start, renewed_next, renewed_end}
 use Rattle.shifts.proofs.Spotted.{spotted_start, spotted_next, row_less, column_less}
 use Rattle.shifts.proofs.choose.Goals as goal

@@ -13,7 +13,11 @@ slice_bounds-shift_on-end c = sym (length-take-le _ _ (sizes c.requires.fits_boa
 
 pub shift_on-requires : goal.shift_on-requires
 shift_on-requires c =
-    (c.requires.fits_board.least, (length-take-le _ _ (sizes c.requires.fits_board).few, c.requires.forth_le_side))
+    record {
+      le_side = c.requires.fits_board.least;
+      back_len = length-take-le _ _ (sizes c.requires.fits_board).few;
+      forth_le_side = c.requires.forth_le_side;
+    }
 
 pub returns : goal.returns
 returns c =
