@@ -1,5 +1,5 @@
 -- Marked cells counted, cell after cell.
-use Rattle.std.proofs.Common.{◌≡◌, ℕ, suc, ◌+◌, ◌%◌, ◌^◌, ◌<◌, ◌≤◌, List, length, get_or, sym, ap, ◌∙◌, mod-eq_of_lt, add-one, arith}
+use Rattle.std.proofs.Common.{◌≡◌, ℕ, ◌+◌, ◌%◌, ◌^◌, ◌<◌, ◌≤◌, List, length, get_or, sym, ap, ◌∙◌, mod-eq_of_lt, add-one, arith}
 use native.Mathlib.Nat.{mod-add-mod}
 use Rattle.marks.specs.Marks.{rank_in}
 

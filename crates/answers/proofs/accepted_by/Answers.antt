@@ -1,5 +1,5 @@
 -- `answers::accepted_by` meets its contract: the runs are counted one after the other.
-use Rattle.std.proofs.Common.{ℕ, ◌+◌, ◌-◌, ◌%◌, ◌^◌, refl, ap, ◌∙◌, ap₂, rules}
+use Rattle.std.proofs.Common.{ℕ, ◌+◌, ◌%◌, ◌^◌, refl, ap, ◌∙◌, ap₂, rules}
 use Rattle.array.specs.declared.moves.Move.TheVariants.{Swap}
 use Rattle.runs.specs.declared.Run.{Run}
 use Rattle.runs.specs.Runs.{electronic_in, swaps_in, electronic as electronic_of, swaps as swaps_of}

@@ -1,5 +1,5 @@
 -- `lists::whole_runs` meets its contract: the runs are filled one after the other.
-use Prim.Native.Nat.{ℕ, ◌-◌}
+use Prim.Native.Nat.{ℕ}
 use mathlib.Core.Path.{ap, ◌∙◌}
 use mathlib.Core.List.{map}
 use lib.ListN.{length}

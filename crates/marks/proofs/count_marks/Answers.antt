@@ -1,5 +1,5 @@
 -- `marks::count_marks` meets its contract: cell after cell.
-use Rattle.std.proofs.Common.{◌≡◌, ℕ, ◌-◌, ◌%◌, ◌^◌, length, refl, ap, ◌∙◌, arith, rules}
+use Rattle.std.proofs.Common.{◌≡◌, ℕ, ◌%◌, ◌^◌, length, refl, ap, ◌∙◌, arith, rules}
 use Rattle.marks.specs.Marks.{rank_in}
 use Rattle.marks.proofs.Counting.{count_next}
 use Rattle.marks.proofs.count_marks.Goals as goal

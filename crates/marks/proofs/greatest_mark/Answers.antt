@@ -1,5 +1,5 @@
 -- `marks::greatest_mark` meets its contract: no mark passed is above the greatest of them.
-use Rattle.std.proofs.Common.{◌-◌, rules}
+use Rattle.std.proofs.Common.{rules}
 use Rattle.marks.proofs.Bounded.{bounded_start, bounded_next, bounded_end}
 use Rattle.marks.proofs.greatest_mark.Goals as goal
 

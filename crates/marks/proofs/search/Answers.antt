@@ -1,5 +1,5 @@
 -- `marks::search` meets its contract: the cells passed are good, and the first that is not is the one named.
-use Rattle.std.proofs.Common.{◌-◌, ◌∙◌, rules}
+use Rattle.std.proofs.Common.{◌∙◌, rules}
 use Rattle.marks.proofs.Checked.{passed_start, passed_next, passed_bad, passed_all}
 use Rattle.marks.proofs.search.Goals as goal
 

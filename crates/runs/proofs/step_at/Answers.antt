@@ -1,5 +1,4 @@
 -- `runs::step_at` meets its contract: run after run is passed until the move is in one.
-use Prim.Native.Nat.{◌-◌}
 use mathlib.Core.Path.{refl, sym, ◌∙◌}
 use native.Mathlib.Numerals.{add-one}
 use borrow.Author.Rules.{rules}

@@ -1,5 +1,4 @@
 -- `runs::write_codes` meets its contract: the codes are stored one after the other.
-use Prim.Native.Nat.{◌-◌}
 use mathlib.Core.Path.{refl, sym, ◌∙◌}
 use native.Mathlib.Omega.{arith}
 use lib.ListN.{length-set}

@@ -1,5 +1,4 @@
 -- `refusals::judging::all_marked` meets its contract: what is unmarked is joined, cell after cell.
-use Prim.Native.Nat.{◌-◌}
 use native.Mathlib.Omega.{arith}
 use Rattle.refusals.proofs.Joined.{below_start, below_next, marked-end}
 use Rattle.refusals.proofs.judging.all_marked.Goals as goal

@@ -1,5 +1,4 @@
 -- `refusals::judging::all_ranked` meets its contract: what is wrong is joined, cell after cell, with the rank carried along (Joined).
-use Prim.Native.Nat.{◌-◌}
 use mathlib.Core.Path.{refl}
 use native.Mathlib.Omega.{arith}
 use Rattle.refusals.proofs.Joined.{ranked_start, ranked_next, ranked_end}

@@ -1,5 +1,4 @@
 -- `refusals::judging::all_rising` meets its contract: what falls is joined, cell after cell.
-use Prim.Native.Nat.{◌-◌}
 use mathlib.Core.Path.{refl, ◌∙◌}
 use native.Mathlib.Omega.{arith}
 use borrow.Author.Tests.{lt-ltb}

@@ -1,6 +1,5 @@
 -- `refusals::judging::first_runs` meets its contract: run after run, with the moves that remain carried along (Judged).
 use mathlib.Core.Path.{ap}
-use Prim.Native.Nat.{◌-◌}
 use native.Mathlib.Omega.{arith}
 use lib.ListN.{length}
 use Rattle.array.specs.declared.moves.Move.TheVariants.{Swap}

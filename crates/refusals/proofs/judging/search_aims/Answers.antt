@@ -1,5 +1,4 @@
 -- `refusals::judging::search_aims` meets its contract: cell after cell, with the rank and the aim before it carried along (Judged).
-use Prim.Native.Nat.{◌-◌}
 use mathlib.Core.Path.{refl, ◌∙◌}
 use native.Mathlib.Omega.{arith}
 use Rattle.refusals.proofs.Judged.{judging_start, judging_next, judging_bad, judging_good}

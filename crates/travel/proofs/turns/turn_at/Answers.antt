@@ -1,5 +1,4 @@
 -- `travel::turns::turn_at` meets its contract: the runs are gone through until the move is among those of one.
-use Prim.Native.Nat.{◌-◌}
 use mathlib.Core.Path.{refl, sym, ◌∙◌}
 use native.Mathlib.Omega.{arith}
 use lib.ListN.{get_or}
