@@ -37,7 +37,7 @@ no_side = refl
 
 -- line 2: empty, not ended, one field, three fields, a leading zero, not below 16, a word too large, a space, a sign
 bad_cell :
-    judged ("side\t2\n\n" ∷ "side\t2\n1\t7" ∷ "side\t2\n1\n" ∷ "side\t2\n1\t7\t\n" ∷ "side\t2\n01\t7\n" ∷ "side\t2\n16\t7\n" ∷ "side\t2\n1\t4294967296\n" ∷ "side\t2\n1 \t7\n" ∷ "side\t2\n1\t_7\n" ∷ [])
+    judged ("side\t2\n\n" ∷ "side\t2\n1\t7" ∷ "side\t2\n1\n" ∷ "side\t2\n1\t7\t\n" ∷ "side\t2\n01\t7\n" ∷ "side\t2\n16\t7\n" ∷ "side\t2\n1\t4294967296\n" ∷ "side\t2\n1 \t7\n" ∷ "side\t2\n1\t-7\n" ∷ [])
     ≡ replicate 9 (no_job 8 2)
 unfolding judged
 bad_cell = refl
