@@ -1,5 +1,5 @@
 -- `plainwords::add_up` meets its contract: word after word, the sum carried on.
-use Rattle.std.proofs.Common.{◌-◌, arith, length-set}
+use Rattle.std.proofs.Common.{arith, length-set}
 use Rattle.laws.proofs.Rewriting.{rewriting_end}
 use Rattle.plainwords.proofs.Adding.{sum_up_to, adding_start, adding_next}
 use Rattle.plainwords.proofs.add_up.Goals as goal

@@ -1,5 +1,5 @@
 -- `plainwords::fill` meets its contract: cell after cell.
-use Rattle.std.proofs.Common.{ℕ, ◌-◌, refl, arith, length-set}
+use Rattle.std.proofs.Common.{ℕ, refl, arith, length-set}
 use Rattle.laws.proofs.Rewriting.{rewriting_start, rewriting_store}
 use Rattle.plainwords.proofs.Adding.{one_word}
 use Rattle.plainwords.proofs.fill.Goals as goal

@@ -19,7 +19,10 @@ shift_along-requires c =
     let read = to_z-of_z w32 a.k c.ranges.k in
     let judged = rw read at c.judge_shift-answer.ensures in
     let list = shift_runs a.side a.axis a.edge a.k in
-    (board_accepted a.side n rest list refl judged c.if-answer-ne0.false, near-accepted a.side n a.k list judged c.if-answer-ne0.false (rw read at c.distance_of.ensures))
+    record {
+      fits_board = board_accepted a.side n rest list refl judged c.if-answer-ne0.false;
+      near = near-accepted a.side n a.k list judged c.if-answer-ne0.false (rw read at c.distance_of.ensures);
+    }
 
 pub returns : goal.returns
 returns c =

@@ -1,5 +1,5 @@
 -- `plainwords::total` meets its contract: word after word.
-use Rattle.std.proofs.Common.{◌≡◌, ℕ, ◌-◌, ◌%◌, ◌^◌, length, sym, refl, ap, ◌∙◌, add-one, arith, rules}
+use Rattle.std.proofs.Common.{◌≡◌, ℕ, ◌%◌, ◌^◌, length, sym, refl, ap, ◌∙◌, add-one, arith, rules}
 use Rattle.laws.specs.Sums.{sum_of}
 use Rattle.plainwords.proofs.Adding.{sum_next}
 use Rattle.plainwords.proofs.total.Goals as goal

@@ -4,7 +4,10 @@ use Rattle.plainwords.proofs.axes.shift_along.Goals as goal
 
 pub shift_blocks-requires : goal.shift_blocks-requires
 shift_blocks-requires c =
-    (whole-blocks c.args.axis c.requires.fits_board c.stride_along-stride.ensures c.blocks_along-blocks.ensures, names c.args.edge c.requires.near c.sources-from.ensures)
+    record {
+      whole_blocks = whole-blocks c.args.axis c.requires.fits_board c.stride_along-stride.ensures c.blocks_along-blocks.ensures;
+      names = names c.args.edge c.requires.near c.sources-from.ensures;
+    }
 
 pub returns : goal.returns
 returns c =

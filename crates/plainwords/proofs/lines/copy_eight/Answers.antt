@@ -1,5 +1,5 @@
 -- `plainwords::lines::copy_eight` meets its contract: word after word.
-use Rattle.std.proofs.Common.{◌≡◌, ◌-◌, refl, arith}
+use Rattle.std.proofs.Common.{◌≡◌, refl, arith}
 use Rattle.plainwords.proofs.Rows.{copied-start, copied_next}
 use Rattle.plainwords.proofs.lines.copy_eight.Goals as goal
 

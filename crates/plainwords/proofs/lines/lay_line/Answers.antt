@@ -1,5 +1,5 @@
 -- `plainwords::lines::lay_line` meets its contract: position after position, by `PlacesLaid`.
-use Rattle.std.proofs.Common.{◌≡◌, ◌-◌, refl, arith}
+use Rattle.std.proofs.Common.{◌≡◌, refl, arith}
 use Rattle.lanes.proofs.Laying.{laid_start}
 use Rattle.plainwords.proofs.Shifting.{laid_more}
 use Rattle.plainwords.proofs.lines.lay_line.Goals as goal

@@ -1,5 +1,5 @@
 -- `plainwords::lines::lay_rows` meets its contract: row after row, each from where the table says.
-use Rattle.std.proofs.Common.{◌≡◌, ◌-◌, refl, arith}
+use Rattle.std.proofs.Common.{◌≡◌, refl, arith}
 use Rattle.plainwords.proofs.Rows.{rows_start, rows_next}
 use Rattle.plainwords.proofs.lines.lay_rows.Goals as goal
 
@@ -23,7 +23,10 @@ overflow_add-first c = omega (arith, c.requires.whole_rows.inside _ c.loop-p-tes
 
 pub copy_eight-requires : goal.copy_eight-requires
 copy_eight-requires c =
-    (omega (arith, c.requires.names.few c.loop-p.p, c.requires.rows_len), omega (arith, c.requires.whole_rows.inside _ c.loop-p-test.true, c.loop-p.invariant.1.size))
+    record {
+      a_in_bounds = omega (arith, c.requires.names.few c.loop-p.p, c.requires.rows_len);
+      b_in_bounds = omega (arith, c.requires.whole_rows.inside _ c.loop-p-test.true, c.loop-p.invariant.1.size);
+    }
 
 pub overflow_add-p : goal.overflow_add-p
 overflow_add-p c = omega (arith, c.loop-p-test.true)

@@ -1,5 +1,5 @@
 -- `plainwords::lines::shift_blocks` meets its contract: block after block.
-use Rattle.std.proofs.Common.{◌≡◌, ◌-◌, refl, arith}
+use Rattle.std.proofs.Common.{◌≡◌, refl, arith}
 use Rattle.plainwords.proofs.Shifting.{block_of, blocks_start, blocks_next}
 use Rattle.plainwords.proofs.lines.shift_blocks.Goals as goal
 
@@ -17,7 +17,7 @@ overflow_mul-block c =
 pub shift_block-requires : goal.shift_block-requires
 shift_block-requires c =
     let l = c.loop-block in
-    (block_of c.requires.whole_blocks c.loop-block-test.true l.invariant.2.size l.invariant.0, c.requires.names)
+    record { whole_block = block_of c.requires.whole_blocks c.loop-block-test.true l.invariant.2.size l.invariant.0; names = c.requires.names }
 
 pub overflow_add-block : goal.overflow_add-block
 overflow_add-block c = omega (arith, c.loop-block-test.true)

@@ -10,7 +10,7 @@ overflow_add-start c =
 
 pub take_rows-requires : goal.take_rows-requires
 take_rows-requires c =
-    (rows_in_block c.args.o c.requires.whole_block c.requires.o_bound, search rules)
+    record { whole_rows = rows_in_block c.args.o c.requires.whole_block c.requires.o_bound; rows_len = search rules }
 
 pub overflow_add-start-2 : goal.overflow_add-start-2
 overflow_add-start-2 c =
@@ -18,7 +18,11 @@ overflow_add-start-2 c =
 
 pub lay_rows-requires : goal.lay_rows-requires
 lay_rows-requires c =
-    (rows_in_block c.args.o c.requires.whole_block c.requires.o_bound, (c.requires.names, search rules))
+    record {
+      whole_rows = rows_in_block c.args.o c.requires.whole_block c.requires.o_bound;
+      names = c.requires.names;
+      rows_len = search rules;
+    }
 
 pub returns : goal.returns
 returns c =

@@ -1,5 +1,5 @@
 -- `plainwords::lines::shift_eights` meets its contract: eight lines after eight.
-use Rattle.std.proofs.Common.{◌-◌, arith}
+use Rattle.std.proofs.Common.{arith}
 use Rattle.plainwords.proofs.Shifting.{block-kept, lines_start, lines_next}
 use Rattle.plainwords.proofs.lines.shift_eights.Goals as goal
 
@@ -11,7 +11,11 @@ overflow_sub-stride c = omega (arith, c.loop-o.invariant.0)
 
 pub shift_eight-requires : goal.shift_eight-requires
 shift_eight-requires c =
-    (block-kept c.loop-o.invariant.1.size c.requires.whole_block, (omega (arith, c.loop-o-test.true, c.loop-o.invariant.0), c.requires.names))
+    record {
+      whole_block = block-kept c.loop-o.invariant.1.size c.requires.whole_block;
+      o_bound = omega (arith, c.loop-o-test.true, c.loop-o.invariant.0);
+      names = c.requires.names;
+    }
 
 pub overflow_add-o : goal.overflow_add-o
 overflow_add-o c = omega (arith, c.loop-o-test.true, c.loop-o.invariant.0)
@@ -28,4 +32,4 @@ pub shape_of-words : goal.shape_of-words
 shape_of-words c = c.loop-o.invariant.1.size
 
 pub returns : goal.returns
-returns c = (c.loop-o.invariant.0, c.loop-o.invariant.1)
+returns c = record { upper_bound = c.loop-o.invariant.0; lines_shifted = c.loop-o.invariant.1 }

@@ -9,7 +9,7 @@ overflow_add-start c =
 
 pub take_line-requires : goal.take_line-requires
 take_line-requires c =
-    (line_in_block c.requires.whole_block c.requires.o_lt_stride, refl)
+    record { whole_line = line_in_block c.requires.whole_block c.requires.o_lt_stride; line_value = refl }
 
 pub overflow_add-start-2 : goal.overflow_add-start-2
 overflow_add-start-2 c =
@@ -17,7 +17,7 @@ overflow_add-start-2 c =
 
 pub lay_line-requires : goal.lay_line-requires
 lay_line-requires c =
-    (line_in_block c.requires.whole_block c.requires.o_lt_stride, c.requires.names)
+    record { whole_line = line_in_block c.requires.whole_block c.requires.o_lt_stride; names = c.requires.names }
 
 pub returns : goal.returns
 returns c =

@@ -1,17 +1,21 @@
 -- `plainwords::lines::shift_lines` meets its contract: the lines that go in eights, and then line after line.
-use Rattle.std.proofs.Common.{◌≡◌, ◌-◌, ◌∙◌, arith}
+use Rattle.std.proofs.Common.{◌≡◌, ◌∙◌, arith}
 use Rattle.plainwords.proofs.Shifting.{block-kept, lines_start, lines_next}
 use Rattle.plainwords.proofs.lines.shift_lines.Goals as goal
 
 pub shift_eights-o-requires : goal.shift_eights-o-requires
-shift_eights-o-requires c = (c.requires.whole_block, c.requires.names)
+shift_eights-o-requires c = record { whole_block = c.requires.whole_block; names = c.requires.names }
 
 pub loop-o-init : goal.loop-o-init
 loop-o-init c = (omega arith, c.shift_eights-o.ensures.upper_bound, lines_start)
 
 pub shift_line-requires : goal.shift_line-requires
 shift_line-requires c =
-    (block-kept (c.loop-o.invariant.2.size ∙ c.shift_eights-o.ensures.lines_shifted.size) c.requires.whole_block, (c.loop-o-test.true, c.requires.names))
+    record {
+      whole_block = block-kept (c.loop-o.invariant.2.size ∙ c.shift_eights-o.ensures.lines_shifted.size) c.requires.whole_block;
+      o_lt_stride = c.loop-o-test.true;
+      names = c.requires.names;
+    }
 
 pub overflow_add-o : goal.overflow_add-o
 overflow_add-o c = omega (arith, c.loop-o-test.true)
@@ -33,4 +37,4 @@ returns c =
     let l = c.loop-o in
     let eights = c.shift_eights-o.ensures in
     let e : l.o ≡ c.args.stride = omega (arith, c.loop-o-test.false, l.invariant.1) in
-    lines_next (omega arith) eights.0 (omega arith) eights.1 (rw e at l.invariant.2)
+    lines_next (omega arith) eights.upper_bound (omega arith) eights.lines_shifted (rw e at l.invariant.2)

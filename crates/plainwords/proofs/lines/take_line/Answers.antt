@@ -1,5 +1,5 @@
 -- `plainwords::lines::take_line` meets its contract: position after position, over zeros.
-use Rattle.std.proofs.Common.{◌≡◌, ℕ, ◌+◌, ◌-◌, ◌*◌, length, get_or, refl, ap, arith}
+use Rattle.std.proofs.Common.{◌≡◌, ℕ, ◌+◌, ◌*◌, length, get_or, refl, ap, arith}
 use Rattle.laws.proofs.Rewriting.{rewriting_start, rewriting_store}
 use Rattle.plainwords.proofs.Shifting.{line_taken}
 use Rattle.plainwords.proofs.lines.take_line.Goals as goal

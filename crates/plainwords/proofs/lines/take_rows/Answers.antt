@@ -1,5 +1,5 @@
 -- `plainwords::lines::take_rows` meets its contract: row after row.
-use Rattle.std.proofs.Common.{◌≡◌, ◌-◌, refl, arith}
+use Rattle.std.proofs.Common.{◌≡◌, refl, arith}
 use Rattle.plainwords.proofs.Rows.{rows_start, rows_next}
 use Rattle.plainwords.proofs.lines.take_rows.Goals as goal
 
@@ -17,7 +17,10 @@ overflow_mul-p-in-loop-p c = omega (arith, c.requires.whole_rows.most, c.loop-p-
 
 pub copy_eight-requires : goal.copy_eight-requires
 copy_eight-requires c =
-    (omega (arith, c.requires.whole_rows.inside _ c.loop-p-test.true), omega (arith, c.requires.whole_rows.most, c.requires.rows_len, c.loop-p-test.true, c.loop-p.invariant.1.size))
+    record {
+      a_in_bounds = omega (arith, c.requires.whole_rows.inside _ c.loop-p-test.true);
+      b_in_bounds = omega (arith, c.requires.whole_rows.most, c.requires.rows_len, c.loop-p-test.true, c.loop-p.invariant.1.size);
+    }
 
 pub overflow_add-p : goal.overflow_add-p
 overflow_add-p c = omega (arith, c.loop-p-test.true)
