@@ -14,27 +14,7 @@ perform-requires c =
     let a = c.args in
     let sizes = sizes_of a.words.now a.spare_words.now a.spare_marks.now a.spare_aims.now in
     let k = cut_known a.trip a.side a.cut sizes a.marks.now a.aims.now c.judge_cut-answer.ensures c.if-answer-ne0.false in
-    (k.fits.side, (fitting_sized k.fits, (k.inside, k.good)))
-
-pub shape_of-words : goal.shape_of-words
-shape_of-words c = c.perform.auto.1.1.1.0
-
-pub shape_of-marks : goal.shape_of-marks
-shape_of-marks c = c.perform.auto.1.1.1.1.0
-
-pub shape_of-aims : goal.shape_of-aims
-shape_of-aims c = c.perform.auto.1.1.1.1.1.0
-
-pub shape_of-spare_words : goal.shape_of-spare_words
-shape_of-spare_words c = c.perform.auto.1.1.1.1.1.1.0
-
-pub shape_of-spare_marks : goal.shape_of-spare_marks
-shape_of-spare_marks c =
-    c.perform.auto.1.1.1.1.1.1.1.0
-
-pub shape_of-spare_aims : goal.shape_of-spare_aims
-shape_of-spare_aims c =
-    c.perform.auto.1.1.1.1.1.1.1.1.0
+    record { side_value = k.fits.side; long = fitting_sized k.fits; moves_bound = k.inside; good = k.good }
 
 pub returns : goal.returns
 returns c =

@@ -20,38 +20,7 @@ perform-requires c =
     let e = c.judge_full-answer.ensures in
     let z = c.if-answer-ne0.false in
     let k = full_known a.trip a.side sizes a.marks.now a.aims.now (length a.codes.now) (length a.moved.now) e z in
-    (k.fits.side, (fitting_sized k.fits, (omega (arith, total_on_board a.side _ k.fits.side c.total_moves.ensures), k.good)))
-
-pub shape_of-words : goal.shape_of-words
-shape_of-words c = c.perform.auto.1.1.1.0
-
-pub shape_of-marks : goal.shape_of-marks
-shape_of-marks c =
-    c.perform.auto.1.1.1.1.0
-
-pub shape_of-aims : goal.shape_of-aims
-shape_of-aims c =
-    c.perform.auto.1.1.1.1.1.0
-
-pub shape_of-spare_words : goal.shape_of-spare_words
-shape_of-spare_words c =
-    c.perform.auto.1.1.1.1.1.1.0
-
-pub shape_of-spare_marks : goal.shape_of-spare_marks
-shape_of-spare_marks c =
-    c.perform.auto.1.1.1.1.1.1.1.0
-
-pub shape_of-spare_aims : goal.shape_of-spare_aims
-shape_of-spare_aims c =
-    c.perform.auto.1.1.1.1.1.1.1.1.0
-
-pub shape_of-codes : goal.shape_of-codes
-shape_of-codes c =
-    c.write_codes.auto.1.0
-
-pub shape_of-moved : goal.shape_of-moved
-shape_of-moved c =
-    c.perform.auto.1.1.1.1.1.1.1.1.1.0
+    record { side_value = k.fits.side; long = fitting_sized k.fits; moves_bound = omega (arith, total_on_board a.side _ k.fits.side c.total_moves.ensures); good = k.good }
 
 pub returns : goal.returns
 returns c =
