@@ -118,8 +118,8 @@ fn join_places(
     apart: usize,
     count: usize,
 )
-    requires places { Places to apart count (length part.old) }
-    requires places_2 { Places from apart count (length part.old) }
+    requires written { Places to apart count (length part.old) }
+    requires heard { Places from apart count (length part.old) }
     requires apart { Apart to from apart count }
     ensures { PlacesLaid to apart count (join_from joining to from apart part.old) part.old part.new }
 {
@@ -178,8 +178,8 @@ fn line_at(side: usize, way: Way, p: usize) -> LinePlaces
 // So many places take the words of as many others. Those that lie side by side, a row, have a call of their own: it is compiled by itself, to
 // several words at a time.
 fn take_places(part: &mut [u32], to: usize, from: usize, apart: usize, count: usize)
-    requires places { Places to apart count (length part.old) }
-    requires places_2 { Places from apart count (length part.old) }
+    requires written { Places to apart count (length part.old) }
+    requires heard { Places from apart count (length part.old) }
     requires apart { Apart to from apart count }
     ensures { PlacesLaid to apart count (join_from Joining.Fill to from apart part.old) part.old part.new }
 {

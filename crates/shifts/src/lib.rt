@@ -74,7 +74,7 @@ fn choose(
     forth: usize,
     around: usize,
 )
-    requires le_side { 1 ≤ side }
+    requires least { 1 ≤ side }
     requires back_len { length back.now ≡ length words.old }
     ensures { words.new ≡ chosen side way edge forth around words.old back.now }
 {
@@ -105,9 +105,9 @@ fn shift_lanes(
     forth: usize,
     around: usize,
 )
-    requires le_side { 1 ≤ side }
+    requires least { 1 ≤ side }
     requires back_len { length back.old ≡ length words.old }
-    requires forth_le_side { (forth ≤ side) × (around ≤ side) }
+    requires few { (forth ≤ side) × (around ≤ side) }
     ensures { ShiftLanes side (mesh_shift side way edge forth around) words.old back.old words.new }
 {
     combine(Combining::Take, back, &words[..]);
@@ -126,9 +126,9 @@ fn shift_groups(
     forth: usize,
     around: usize,
 )
-    requires le_side { 1 ≤ side }
+    requires least { 1 ≤ side }
     requires back_len { length back.old ≡ length words.old }
-    requires forth_le_side { (forth ≤ side) × (around ≤ side) }
+    requires few { (forth ≤ side) × (around ≤ side) }
     ensures { ShiftLanes side (λ σ. swapped_state (mesh_shift side way edge forth around (swapped_state σ))) words.old back.old words.new }
 {
     swap_words(side, words);
@@ -145,9 +145,9 @@ fn shift_on(
     forth: usize,
     around: usize,
 )
-    requires le_side { 1 ≤ side }
+    requires least { 1 ≤ side }
     requires back_len { length back.old ≡ length words.old }
-    requires forth_le_side { (forth ≤ side) × (around ≤ side) }
+    requires few { (forth ≤ side) × (around ≤ side) }
     ensures { ShiftLanes side (shift_on side axis edge forth around) words.old back.old words.new }
 {
     match axis {
@@ -161,7 +161,7 @@ fn shift_on(
 // The second lane is made here, above the four axes: made below, it would lie on the stack twice.
 fn shift_all(words: &mut [u32], side: usize, axis: Axis, edge: Edge, forth: usize, around: usize)
     requires fits_board { FitsBoard side (length words.old) }
-    requires forth_le_side { (forth ≤ side) × (around ≤ side) }
+    requires few { (forth ≤ side) × (around ≤ side) }
     ensures { Moves side (shift_on side axis edge forth around) words.old words.new }
 {
     let mut back = [0u32; 4096];

@@ -6,7 +6,7 @@ use Rattle.shifts.proofs.Spotted.{spotted_start, spotted_next, row_less, column_
 use Rattle.shifts.proofs.choose.Goals as goal
 
 pub loop-i-init : goal.loop-i-init
-loop-i-init c = (omega arith, spotted_start c.requires.le_side, renewed_start)
+loop-i-init c = (omega arith, spotted_start c.requires.least, renewed_start)
 
 pub offset_bounds-back-i : goal.offset_bounds-back-i
 offset_bounds-back-i c = omega (arith, c.loop-i.invariant.2.size)
@@ -28,7 +28,7 @@ bounds-words-i-in-loop-i c = omega (arith, c.loop-i.invariant.2.size)
 
 pub next_spot-spot-requires : goal.next_spot-spot-requires
 next_spot-spot-requires c =
-    (row_less c.requires.le_side c.loop-i.invariant.1, column_less c.requires.le_side c.loop-i.invariant.1)
+    (row_less c.requires.least c.loop-i.invariant.1, column_less c.requires.least c.loop-i.invariant.1)
 
 pub overflow_add-i : goal.overflow_add-i
 overflow_add-i c = omega (arith, c.loop-i.invariant.2.size)
@@ -38,7 +38,12 @@ loop-i-smaller c = omega (arith, c.loop-i.invariant.2.size)
 
 pub loop-i-preserved : goal.loop-i-preserved
 loop-i-preserved c =
-    (omega (arith, c.loop-i.invariant.2.size), rw c.next_spot-spot.ensures (spotted_next c.requires.le_side c.loop-i.invariant.1), renewed_next _ (omega arith) (c.pick-v.ensures ∙ rw (c.takes.ensures, c.position-p.ensures, c.loop-i.invariant.1.row_is, c.loop-i.invariant.1.column_is)) c.loop-i.invariant.2)
+    let at = c.loop-i.invariant.1 in
+    let made = c.loop-i.invariant.2 in (
+      omega (arith, made.size),
+      rw c.next_spot-spot.ensures (spotted_next c.requires.least at),
+      renewed_next _ (omega arith) (c.pick-v.ensures ∙ rw (c.takes.ensures, c.position-p.ensures, at.row_is, at.column_is)) made,
+    )
 
 pub shape_of-words : goal.shape_of-words
 shape_of-words c = c.loop-i.invariant.2.size

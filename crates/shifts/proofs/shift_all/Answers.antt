@@ -14,9 +14,9 @@ slice_bounds-shift_on-end c = sym (length-take-le _ _ (sizes c.requires.fits_boa
 pub shift_on-requires : goal.shift_on-requires
 shift_on-requires c =
     record {
-      le_side = c.requires.fits_board.least;
+      least = c.requires.fits_board.least;
       back_len = length-take-le _ _ (sizes c.requires.fits_board).few;
-      forth_le_side = c.requires.forth_le_side;
+      few = c.requires.few;
     }
 
 pub returns : goal.returns

@@ -22,7 +22,7 @@ shift_all-requires c =
     let runs = c.shift_runs-runs.ensures ∙ ap (shift_runs c.args.side c.args.axis c.args.edge) (to_z-of_z w32 c.args.k c.ranges.k) in
     record {
       fits_board = board_known _ _ (passed c.is_board.ensures c.if-not-is_board.false);
-      forth_le_side = (
+      few = (
         rw (forth_times c.args.side c.args.axis c.args.edge c.args.k _ _ near runs) (forth_few _ c.args.edge _ near),
         rw (home_times c.args.side c.args.axis c.args.edge c.args.k _ _ near runs) (back_few _ c.args.edge _ near),
       );

@@ -49,7 +49,9 @@ loop-i-smaller c = omega (arith, c.loop-i.invariant.1.size)
 
 pub loop-i-preserved : goal.loop-i-preserved
 loop-i-preserved c =
-    (omega (arith, c.loop-i.invariant.1.size, c.loop-i-test.true), renewed_next _ (omega (arith, c.loop-i.invariant.1.size, c.loop-i-test.true)) (c.combined-v.ensures ∙ ap (λ x. minus x (get_or c.args.less.now c.loop-i.i 0)) c.plus.ensures) c.loop-i.invariant.1)
+    let made = c.loop-i.invariant.1 in
+    let e = c.combined-v.ensures ∙ ap (λ x. minus x (get_or c.args.less.now c.loop-i.i 0)) c.plus.ensures in
+    (omega (arith, made.size, c.loop-i-test.true), renewed_next _ (omega (arith, made.size, c.loop-i-test.true)) e made)
 
 pub shape_of-to : goal.shape_of-to
 shape_of-to c = c.loop-i.invariant.1.size

@@ -19,7 +19,7 @@ pub take_places-requires : goal.take_places-requires
 take_places-requires c =
     let e = sym c.behind-from.ensures ∙ c.in-At.is in
     let z = places_ready c.requires.group c.args.way c.args.p c.in-At.q _ _ c.requires.p_lt_side e c.place_gap-next.ensures c.line_gap-apart.ensures in
-    record { places = z.0; places_2 = z.1.0; apart = z.1.1 }
+    record { written = z.0; heard = z.1.0; apart = z.1.1 }
 
 pub overflow_mul-p-in-Nothing : goal.overflow_mul-p-in-Nothing
 overflow_mul-p-in-Nothing c =
