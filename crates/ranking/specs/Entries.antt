@@ -15,7 +15,7 @@ rank_cases s marks aims log =
     side_case s ∷ lane_case s (length marks) ∷ lane_case s aims ∷ log_case (prefix_sum_runs s) log ∷ marks_case marks ∷ []
 
 -- the aims become the ranks
-abbrev pub Ranked : ℕ → Lent → Lent → Lent → Answer → Type 0
+abbrev pub Ranked : ℕ → List ℕ → Lent → Lent → Answer → Type 0
 Ranked s marks aims codes =
-    Entry (rank_cases s (old marks) (length (old aims)) (length (old codes))) (prefix_sum_runs s)
-    (new aims ≡ ranks s (old marks)) (CodesLogged (prefix_sum_runs s) codes) (Kept aims × Kept codes)
+    Entry (rank_cases s marks (length (old aims)) (length (old codes))) (prefix_sum_runs s)
+    (new aims ≡ ranks s marks) (CodesLogged (prefix_sum_runs s) codes) (Kept aims × Kept codes)

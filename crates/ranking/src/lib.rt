@@ -2,7 +2,7 @@
 #![tactic(auto)]
 
 ghost use Rattle.std.specs.Prelude.{◌≡◌, ◌≤◌, length};
-ghost use Rattle.laws.specs.Lent.{old, new};
+ghost use Rattle.laws.specs.Lent.{new};
 ghost use Rattle.laws.specs.Tables.{entries};
 ghost use Rattle.lists.specs.Lists.{prefix_sum_runs};
 ghost use Rattle.answers.specs.Answers.{verdict, accepted_by};
@@ -25,7 +25,7 @@ fn wide(mark: u8) -> u32
 // The marks as words.
 fn load_marks(marks: &[u8], sums: &mut [u32])
     requires { length marks.now ≡ length sums.old }
-    ensures { new sums ≡ old marks }
+    ensures { new sums ≡ marks.now }
 {
     let mut i: usize = 0;
     while i < marks.len() {
@@ -146,7 +146,7 @@ fn judge_rank(side: usize, marks: &[u8], aims: usize, log: usize) -> Answer
 
 // Writes each marked cell's rank into its aim, and 0 into every other.
 pub fn rank(side: usize, marks: &[u8], aims: &mut [u16], codes: &mut [u8]) -> Answer
-    ensures { Ranked side marks aims codes result }
+    ensures { Ranked side marks.now aims codes result }
 {
     let answer = judge_rank(side, marks, aims.len(), codes.len());
     if answer.number != 0 {

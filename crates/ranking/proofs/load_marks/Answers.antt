@@ -1,5 +1,4 @@
 -- `ranking::load_marks` meets its contract: the words are filled from the marks.
-use Prim.Native.Nat.{◌-◌}
 use mathlib.Core.Path.{◌∙◌}
 use mathlib.Core.List.{map-id}
 use borrow.Author.Rules.{rules}

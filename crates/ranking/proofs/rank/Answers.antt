@@ -15,7 +15,10 @@ write_ranks-requires c =
     let z = c.if-answer-ne0.false in
     let n = length a.aims.now in
     let log = length a.codes.now in
-    (marked a.side a.marks.now n log c.judge_rank-answer.ensures z, aims_long a.side a.marks.now n log c.judge_rank-answer.ensures z)
+    record {
+      good_marks = marked a.side a.marks.now n log c.judge_rank-answer.ensures z;
+      aims_len = aims_long a.side a.marks.now n log c.judge_rank-answer.ensures z;
+    }
 
 pub returns : goal.returns
 returns c =

@@ -1,12 +1,10 @@
 -- `ranking::rank_lanes` meets its contract: the marks are loaded, summed and turned into aims.
 use mathlib.Core.Path.{◌∙◌}
 use Rattle.ranking.proofs.Aims.{summed, ranks_are}
-use borrow.Author.Rules.{rules}
 use Rattle.ranking.proofs.rank_lanes.Goals as goal
 
-pub set_aims-requires : goal.set_aims-requires
-set_aims-requires c =
-    (summed c.requires.good_marks c.load_marks.ensures c.prefix_words.ensures, search rules)
+pub set_aims-requires-clause-summed : goal.set_aims-requires-clause-summed
+set_aims-requires-clause-summed c = summed c.requires.good_marks c.load_marks.ensures c.prefix_words.ensures
 
 pub returns : goal.returns
 returns c =

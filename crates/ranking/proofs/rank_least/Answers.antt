@@ -1,12 +1,11 @@
 -- `ranking::rank_least` meets its contract: the marks are loaded, summed and turned into aims, of which there are 16 at most.
 use mathlib.Core.Path.{◌∙◌}
 use Rattle.ranking.proofs.Aims.{summed_least, ranks_are}
-use borrow.Author.Rules.{rules}
 use Rattle.ranking.proofs.rank_least.Goals as goal
 
-pub set_aims-requires : goal.set_aims-requires
-set_aims-requires c =
-    (summed_least c.requires.good_marks c.requires.marks_len_bound c.load_marks.ensures c.prefix_least.ensures, search rules)
+pub set_aims-requires-clause-summed : goal.set_aims-requires-clause-summed
+set_aims-requires-clause-summed c =
+    summed_least c.requires.good_marks c.requires.marks_len_bound c.load_marks.ensures c.prefix_least.ensures
 
 pub returns : goal.returns
 returns c =

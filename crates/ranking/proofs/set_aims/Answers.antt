@@ -1,5 +1,4 @@
 -- `ranking::set_aims` meets its contract: the aims are filled with one less than the sums.
-use Prim.Native.Nat.{◌-◌}
 use mathlib.Core.Path.{◌∙◌}
 use borrow.Author.Rules.{rules}
 use Rattle.laws.proofs.Filling.{filled-start, filled_next, filled-end}

@@ -2,6 +2,6 @@
 use Rattle.array.proofs.Board.{side_known}
 use Rattle.ranking.proofs.write_ranks.Goals as goal
 
-pub write_many-requires : goal.write_many-requires
-write_many-requires c =
-    (c.requires.good_marks, (c.requires.aims_len, rw c.requires.good_marks.size (side_known c.args.side c.requires.good_marks.side).cells_few))
+pub write_many-requires-clause-marks_len_bound : goal.write_many-requires-clause-marks_len_bound
+write_many-requires-clause-marks_len_bound c =
+    rw c.requires.good_marks.size (side_known c.args.side c.requires.good_marks.side).cells_few
