@@ -1,10 +1,10 @@
 -- What the small functions of a replay tell of a line, in the terms of the code.
 use Prim.Native.Nat.{ℕ, suc, ◌+◌, ◌-◌, ◌*◌, ◌≤◌, ◌<◌}
 use mathlib.Core.Path.{◌≡◌, sym, ap, ap₂, ◌∙◌}
-use mathlib.Core.Bool.{Bool, true, false, cond, not, ◌&&◌}
+use mathlib.Core.Bool.{Bool, true, false, cond, ◌&&◌}
 use mathlib.Core.List.{List, []}
 use native.Mathlib.Omega.{arith}
-use borrow.Author.Tests.{not-true, not-false, eq-eqb, ne_eqb, le-leb, lt-leb, lt-ltb, le-ltb, eqb-true, leb-true, ltb-true}
+use borrow.Author.Tests.{eq-eqb, ne_eqb, le-leb, lt-leb, lt-ltb, le-ltb, eqb-true, leb-true, ltb-true}
 use mir.Syntax.{w64}
 use mir.Val.{Fits}
 use lib.Dec.{eqb, leb, ltb}
@@ -141,28 +141,28 @@ no_code s number rs f e g h =
     sym (get_or-eq_default (codes rs) 0 (code_past rs (number - 1) (sym g ∙ h))) ∙ ap (λ (l : List Run). get_or (codes l) (number - 1) 0) e
 
 -- `at_move` and `at_record`: a line that is bad, and one that is good
-pub bad_line : (t x : Bool) (y : Next) → t ≡ x → not t ≡ true → Bad ≡ cond x y Bad
-bad_line t x y e f = rw (sym e ∙ not-true t f)
+pub bad_line : (t x : Bool) (y : Next) → t ≡ x → t ≡ false → Bad ≡ cond x y Bad
+bad_line t x y e f = rw (sym e ∙ f)
 
-pub turned : (s count number code c missing other first d : ℕ) (t : Tally) (good : Bool) → good ≡ in_turn s t.made number → not good ≡ false
+pub turned : (s count number code c missing other first d : ℕ) (t : Tally) (good : Bool) → good ≡ in_turn s t.made number → good ≡ true
     → c ≡ code_at s number → missing ≡ cond (leb count t.seen) 0 t.made → other ≡ cond (eqb code c) 0 number
     → first ≡ earlier missing other → d ≡ earlier t.differs first
     → On (record { made = number; next = 0; seen = 0; differs = d }) ≡ cond (in_turn s t.made number) (On (behind_move s t count number code)) Bad
 turned s count number code c missing other first d t good g h e f o p q =
-    rw (sym g ∙ not-false good h) (ap (λ (x : ℕ). On (record { made = number; next = 0; seen = 0; differs = x })) all)
+    rw (sym g ∙ h) (ap (λ (x : ℕ). On (record { made = number; next = 0; seen = 0; differs = x })) all)
   where
     all : d ≡ earlier t.differs (earlier (cond (leb count t.seen) 0 t.made) (cond (eqb code (code_at s number)) 0 number))
     all = q ∙ ap (earlier t.differs) (p ∙ ap₂ earlier f (o ∙ ap (λ (x : ℕ). cond (eqb code x) 0 number) e))
 
 -- a record that is in its place
-module _ (s n made next : ℕ) (h : Held) (good : Bool) (z : Small s n) (g : good ≡ in_place s made next h) (f : not good ≡ false) where
+module _ (s n made next : ℕ) (h : Held) (good : Bool) (z : Small s n) (g : good ≡ in_place s made next h) (f : good ≡ true) where
   pub placed_room : (h.cell < 81) × (h.slot ≤ 1)
-  placed_room = omega (arith, place_known s made next h (sym g ∙ not-false good f), few_cells s z.small)
+  placed_room = omega (arith, place_known s made next h (sym g ∙ f), few_cells s z.small)
 
   pub placed_fits : (order : ℕ) → order ≡ order_of h → Fits w64 (order + 1)
   placed_fits order o = record { fits = omega (arith, o, placed_room) }
 
-pub placed : (s other d order : ℕ) (t : Tally) (r : Records) (h : Held) (good first : Bool) → good ≡ in_place s t.made t.next h → not good ≡ false
+pub placed : (s other d order : ℕ) (t : Tally) (r : Records) (h : Held) (good first : Bool) → good ≡ in_place s t.made t.next h → good ≡ true
     → first ≡ is_first h (drop t.seen (list_in r)) → other ≡ cond first 0 t.made → d ≡ earlier t.differs other → order ≡ order_of h
     → On (record { made = t.made; next = order + 1; seen = t.seen + 1; differs = d })
     ≡ cond (in_place s t.made t.next h) (On (behind_record t (list_in r) h)) Bad
@@ -170,7 +170,7 @@ placed s other d order t r h good first g f e v q o =
     let numbers : On (record { made = t.made; next = order + 1; seen = t.seen + 1; differs = d })
     ≡ On (record { made = t.made; next = suc (order_of h); seen = suc t.seen; differs = d })
     = ap₂ (λ (x y : ℕ). On (record { made = t.made; next = x; seen = y; differs = d })) (omega (arith, o)) (omega arith) in
-    rw (sym g ∙ not-false good f) (numbers ∙ ap (λ (x : ℕ). On (record { made = t.made; next = suc (order_of h); seen = suc t.seen; differs = x })) all)
+    rw (sym g ∙ f) (numbers ∙ ap (λ (x : ℕ). On (record { made = t.made; next = suc (order_of h); seen = suc t.seen; differs = x })) all)
   where
     all : d ≡ earlier t.differs (cond (is_first h (drop t.seen (list_in r))) 0 t.made)
     all = q ∙ ap (earlier t.differs) (v ∙ ap (λ (x : Bool). cond x 0 t.made) e)

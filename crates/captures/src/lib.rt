@@ -5,7 +5,6 @@ mod state;
 mod walk;
 
 ghost use Rattle.std.specs.Prelude.{◌≡◌};
-ghost use Rattle.laws.specs.Lent.{old};
 ghost use Rattle.captures.specs.Replays.{replay_of};
 
 use crate::state::load;

@@ -1,9 +1,8 @@
 // The records of the board after a move, in their order.
 ghost use Rattle.std.specs.Prelude.{◌≡◌, ◌&&◌, [], ◌++◌, ◌+◌, ◌≤◌, ◌<◌, eqb, length};
-ghost use Rattle.laws.specs.Lent.{old};
 ghost use Rattle.array.specs.Cells.{cells};
 ghost use Rattle.lists.specs.Lists.{total_moves};
-ghost use Rattle.slots.specs.Cells.{cell_at};
+ghost use Rattle.slots.specs.Cells.{cell_at, Sized};
 ghost use Rattle.slots.specs.Lanes.{Long};
 ghost use Rattle.captures.specs.Replays.{held_in, held_below, records_after};
 ghost use Rattle.captures.specs.Inside.{Roomy, WithMore, Listing, Loaded, Startable, Started, records_from};
@@ -89,7 +88,7 @@ fn records_in(
     spare_aims: &[u16],
 ) -> Records
     requires n_bound { n ≤ 81 }
-    requires long { Long n words marks aims spare_words spare_marks spare_aims }
+    requires long { Sized n words.now marks.now aims.now spare_words.now spare_marks.now spare_aims.now }
     ensures { Listing (held_below (cell_at words.now marks.now aims.now spare_words.now spare_marks.now spare_aims.now) n) result }
 {
     let mut records = no_records();

@@ -1,6 +1,5 @@
 // A capture read line by line beside the states of the rule.
 ghost use Rattle.std.specs.Prelude.{◌≡◌, true, cond, ◌+◌, ◌≤◌, ◌<◌, length, drop};
-ghost use Rattle.laws.specs.Lent.{old};
 ghost use Rattle.array.specs.Cells.{is_side, cells};
 ghost use Rattle.lists.specs.Lists.{total_moves};
 ghost use Rattle.texts.specs.Lines.{lines_of};

@@ -14,13 +14,14 @@ returns-then-side-gt3 c = search side_above
 pub load-requires : goal.load-requires
 load-requires c =
     let a = c.args in
-    start_room (start_known a.side a.words.now a.marks.now a.aims.now c.judge_unlogged-judged.ensures c.if-judged-ne0.false c.if-side-gt3.false)
+    let room = start_room (start_known a.side a.words.now a.marks.now a.aims.now c.judge_unlogged-judged.ensures c.if-judged-ne0.false c.if-side-gt3.false) in
+    record { words_len_bound = room.0; marks_len = room.1.0; aims_len = room.1.1 }
 
 pub walk-requires : goal.walk-requires
 walk-requires c =
     let a = c.args in
     let z = start_known a.side a.words.now a.marks.now a.aims.now c.judge_unlogged-judged.ensures c.if-judged-ne0.false c.if-side-gt3.false in
-    (started z c.load.ensures, (z.words_long, c.if-capture-gt65536.false))
+    record { started = started z c.load.ensures; n_value = z.words_long; capture_len_bound = c.if-capture-gt65536.false }
 
 pub returns : goal.returns
 returns c = search walked

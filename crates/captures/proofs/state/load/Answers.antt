@@ -1,5 +1,4 @@
 -- `captures::state::load` meets its contract: entry after entry of three lanes.
-use Prim.Native.Nat.{◌-◌}
 use mathlib.Core.Path.{◌≡◌, refl}
 use native.Mathlib.Omega.{arith}
 use lib.ListN.{length}

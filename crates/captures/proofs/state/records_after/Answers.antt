@@ -54,7 +54,8 @@ slice_bounds-records_on-end-6 c =
 pub records_on-requires : goal.records_on-requires
 records_on-requires c =
     let room = small_board c.args.side c.args.n c.args.start c.requires.started c.requires.n_value in
-    board_lent c.args.side c.args.n c.args.made c.args.start _ _ _ c.requires.started c.requires.n_value c.requires.made_bound room room room
+    let lent = board_lent c.args.side c.args.n c.args.made c.args.start _ _ _ c.requires.started c.requires.n_value c.requires.made_bound room room room in
+    record { startable = lent.0; long = lent.1.0; made_bound = lent.1.1 }
 
 pub returns : goal.returns
 returns c =

@@ -1,11 +1,10 @@
 -- `captures::state::records_in` meets its contract: cell after cell.
-use Prim.Native.Nat.{◌-◌}
-use mathlib.Core.Logic.{⊎_elim}
 use native.Mathlib.Omega.{arith}
 use borrow.Author.Rules.{rules}
 use Rattle.laws.proofs.Bools.{passed}
 use Rattle.captures.proofs.Listed.{gathered-start, gathered_next, gathered-over, gathered_room, gathered-end}
 use Rattle.captures.proofs.state.records_in.Goals as goal
+use Rattle.captures.proofs.state.records_in.Goals.{then-not-holds_none, else-not-holds_none}
 
 pub loop-i-init : goal.loop-i-init
 loop-i-init c = (omega arith, gathered-start _ c.no_records-records.ensures)
@@ -17,8 +16,10 @@ pub loop-i-preserved : goal.loop-i-preserved
 loop-i-preserved c =
     let z = c.loop-i.invariant.1 in (
       search rules,
-      ⊎_elim (λ w. rw w.2 (gathered_next _ z w.1.ensures))
-          (λ o. rw o.1 (gathered-over _ z (passed c.holds_none.ensures o.0.left))) c.if-not-holds_none.branch,
+      elim c.if-not-holds_none.branch [
+        | then-not-holds_none w ↦ rw w.records-is (gathered_next _ z w.with_cell-records.ensures)
+        | else-not-holds_none w ↦ rw w.records-is (gathered-over _ z (passed c.holds_none.ensures w.if-not-holds_none.false))
+      ],
     )
 
 pub returns : goal.returns

@@ -1,7 +1,6 @@
 -- `captures::walk::at_move` meets its contract: what it does to the tally, where it is in its turn.
 use mathlib.Core.Path.{sym, ◌∙◌}
 use native.Mathlib.Omega.{arith}
-use borrow.Author.Tests.{not-false}
 use Rattle.captures.proofs.Telling.{bad_line, turn_known, turned}
 use Rattle.captures.proofs.walk.at_move.Goals as goal
 
@@ -10,9 +9,8 @@ returns-then-not-in_turn c = bad_line _ _ _ c.in_turn.ensures c.if-not-in_turn.t
 
 pub code_at-requires : goal.code_at-requires
 code_at-requires c =
-    let i = c.in_turn in
     let a = c.args in
-    omega (arith, turn_known a.side a.tally.made a.number (sym i.ensures ∙ not-false i.result c.if-not-in_turn.false))
+    omega (arith, turn_known a.side a.tally.made a.number (sym c.in_turn.ensures ∙ c.if-not-in_turn.false))
 
 pub returns : goal.returns
 returns c =

@@ -7,7 +7,9 @@ returns-then-not-in_place c = bad_line _ _ _ c.in_place.ensures c.if-not-in_plac
 
 pub order_of-requires : goal.order_of-requires
 order_of-requires c =
-    placed_room c.args.side c.args.n c.args.tally.made c.args.tally.next c.args.held _ c.requires.small c.in_place.ensures c.if-not-in_place.false
+    let a = c.args in
+    let room = placed_room a.side a.n a.tally.made a.tally.next a.held _ c.requires.small c.in_place.ensures c.if-not-in_place.false in
+    record { cell_bound = room.0; slot_bound = room.1 }
 
 pub overflow_add-result : goal.overflow_add-result
 overflow_add-result c =

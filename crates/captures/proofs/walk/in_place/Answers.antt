@@ -13,7 +13,7 @@ pub returns-then-held-gt1 : goal.returns-then-held-gt1
 returns-then-held-gt1 c = search no_slot
 
 pub order_of-requires : goal.order_of-requires
-order_of-requires c = (search cell_few, search rules)
+order_of-requires c = record { cell_bound = search cell_few; slot_bound = search rules }
 
 pub returns : goal.returns
 returns c = search by_order

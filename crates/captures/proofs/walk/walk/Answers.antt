@@ -1,5 +1,4 @@
 -- `captures::walk::walk` meets its contract: line after line.
-use Prim.Native.Nat.{◌-◌}
 use Rattle.texts.proofs.Reading.{part_length}
 use Rattle.captures.proofs.Walking.{walking_start, walking_end, walking_asks, walking_unended, walking_bad, walking_made, walking_next}
 use Rattle.captures.proofs.walk.walk.Goals as goal
@@ -15,7 +14,8 @@ slice_bounds-numbers_in-end c = search part_length
 
 pub tallied-requires : goal.tallied-requires
 tallied-requires c =
-    walking_asks c.loop-at.invariant c.args.n c.requires.started c.requires.n_value
+    let asked = walking_asks c.loop-at.invariant c.args.n c.requires.started c.requires.n_value in
+    record { small = asked.0; roomy = asked.1.0; made_bound = asked.1.1.0; seen_bound = asked.1.1.1 }
 
 pub returns-in_default : goal.returns-in_default
 returns-in_default c = search walking_bad
@@ -23,15 +23,20 @@ returns-in_default c = search walking_bad
 pub expected-records-requires : goal.expected-records-requires
 expected-records-requires c =
     let end = c.bytes_before-end.ensures in
-    let made =
-    walking_made c.loop-at.invariant c.loop-at-test.true _ end.0 end.1 c.if-end-rest.false c.requires.started.small
+    let made = walking_made c.loop-at.invariant c.loop-at-test.true _ end.value end.upper_bound c.if-end-rest.false c.requires.started.small
     c.numbers_in-numbers.ensures c.tallied.ensures c.in-On.is in
-    (c.requires.started, (c.requires.n_value, (made.0, (made.1, c.loop-at.invariant.listed))))
+    record {
+      started = c.requires.started;
+      n_value = c.requires.n_value;
+      made_le_now_made = made.0;
+      now_made_bound = made.1;
+      listing = c.loop-at.invariant.listed;
+    }
 
 pub loop-at-preserved : goal.loop-at-preserved
 loop-at-preserved c =
     let end = c.bytes_before-end.ensures in
-    walking_next c.loop-at.invariant c.loop-at-test.true _ end.0 end.1 c.if-end-rest.false c.requires.started.small
+    walking_next c.loop-at.invariant c.loop-at-test.true _ end.value end.upper_bound c.if-end-rest.false c.requires.started.small
     c.numbers_in-numbers.ensures c.tallied.ensures c.in-On.is c.expected-records.ensures
 
 pub returns : goal.returns
