@@ -1,7 +1,7 @@
 -- What the plain entries answer: counts without a list, and what is known where they accept.
 use Prim.Native.Nat.{ℕ, ◌-◌, ◌*◌}
 use mathlib.Core.Path.{◌≡◌, refl, sym, ap, ◌∙◌}
-use mathlib.Core.Bool.{Bool, true, false, cond, not}
+use mathlib.Core.Bool.{Bool, true, false, cond}
 use mathlib.Core.List.{List, [], ◌∷◌, ◌++◌}
 use native.Mathlib.Omega.{arith}
 use lib.ListN.{length}
@@ -14,7 +14,7 @@ use Rattle.lists.proofs.Counts.{prefix_sum-electronic, total_on_board}
 use Rattle.answers.specs.declared.Answer.{Answer}
 use Rattle.answers.specs.declared.Case.{Case}
 use Rattle.answers.specs.Answers.{accepted, accepted_by, verdict, without_logs, side_case, lane_case}
-use Rattle.answers.proofs.Verdicts.{NoneApplies, none_refuses, counted, side_built, lane_whole}
+use Rattle.answers.proofs.Verdicts.{none_refuses, counted, side_built, lane_whole}
 use Rattle.marks.specs.Marks.{marks_case}
 use Rattle.marks.proofs.Checked.{good_marks}
 use Rattle.refusals.specs.declared.Sizes.{Sizes}

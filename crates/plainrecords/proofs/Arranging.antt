@@ -1,7 +1,7 @@
 -- Lanes at the end of a trip, one by one and together.
-use Prim.Native.Nat.{ℕ, ◌≤◌, ◌<◌}
+use Prim.Native.Nat.{ℕ, ◌<◌}
 use mathlib.Core.Path.{◌≡◌, refl, sym, ap, ◌∙◌}
-use mathlib.Core.Bool.{Bool, true, false, cond}
+use mathlib.Core.Bool.{cond}
 use mathlib.Core.Logic.{⊎_elim}
 use mathlib.Core.List.{List}
 use native.Mathlib.Omega.{arith}
@@ -9,8 +9,8 @@ use borrow.Author.Tests.{lt-ltb, le-ltb}
 use lib.Dec.{ltb}
 use lib.ListN.{length, get_or}
 use Rattle.laws.proofs.Deciding.{apart}
-use Rattle.laws.proofs.Tables.{entry_at, length-entries}
-use Rattle.lists.specs.declared.Trip.TheVariants.{Concentrate, Distribute}
+use Rattle.laws.proofs.Tables.{entry_at}
+use Rattle.lists.specs.declared.Trip.TheVariants.{Concentrate}
 use Rattle.marks.specs.Marks.{rank_in}
 use Rattle.records.specs.Records.{marked_cell}
 use Rattle.records.proofs.Marked.{found}

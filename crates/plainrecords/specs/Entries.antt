@@ -16,9 +16,9 @@ use Rattle.records.specs.Entries.{sizes_of, Unchanged}
 use Rattle.plainrecords.specs.Tables.{end_table}
 
 -- the aims become the ranks
-abbrev pub PlainRank : ℕ → Lent → Lent → Answer → Type 0
+abbrev pub PlainRank : ℕ → List ℕ → Lent → Answer → Type 0
 PlainRank s marks aims =
-    Unlogged (without_logs (rank_cases s (old marks) (length (old aims)) 0)) (prefix_sum_runs s) (new aims ≡ ranks s (old marks)) (Kept aims)
+    Unlogged (without_logs (rank_cases s marks (length (old aims)) 0)) (prefix_sum_runs s) (new aims ≡ ranks s marks) (Kept aims)
 
 -- the cells of a board are these
 pub record TableIs (s : ℕ) (T T' : ℕ → Cell) : Type 0 where

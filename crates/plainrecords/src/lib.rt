@@ -18,7 +18,7 @@ use lists::Trip;
 
 // Writes each marked cell's rank into its aim, and 0 into every other.
 pub fn rank(side: usize, marks: &[u8], aims: &mut [u16]) -> Answer
-    ensures { PlainRank side marks aims result }
+    ensures { PlainRank side marks.now aims result }
 {
     let answer = judge_rank(side, marks, aims.len());
     if answer.number != 0 {

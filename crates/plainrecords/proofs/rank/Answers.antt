@@ -14,7 +14,7 @@ pub write_ranks-requires : goal.write_ranks-requires
 write_ranks-requires c =
     let a = c.args in
     let k = rank_known a.side a.marks.now (length a.aims.now) c.judge_rank-answer.ensures c.if-answer-ne0.false in
-    (k.good, k.aims_long)
+    record { board_marks = k.good; aims_len = k.aims_long }
 
 pub returns : goal.returns
 returns c =

@@ -19,7 +19,7 @@ arrange-requires c =
     let sizes = sizes_of a.words.now a.spare_words.now a.spare_marks.now a.spare_aims.now in
     let e = trip_answer a.trip a.side sizes a.marks.now a.aims.now c.total_moves.ensures c.over.ensures c.judge_unlogged-answer.ensures in
     let k = trip_known a.trip a.side sizes a.marks.now a.aims.now e c.if-answer-ne0.false in
-    (k.lanes, (k.fits.words ∙ sym k.fits.marks, k.fits.aims ∙ sym k.fits.marks))
+    record { trip_lanes = k.lanes; words_len = k.fits.words ∙ sym k.fits.marks; aims_len = k.fits.aims ∙ sym k.fits.marks }
 
 pub returns : goal.returns
 returns c =

@@ -1,5 +1,4 @@
 -- `plainrecords::packing::gather` meets its contract: cell after cell, each word at the rank of its cell.
-use Prim.Native.Nat.{◌-◌}
 use native.Mathlib.Omega.{arith}
 use Rattle.plainrecords.proofs.Counted.{next_few}
 use Rattle.plainrecords.proofs.Gathering.{gathering_start, gathering_next, gathering_end}

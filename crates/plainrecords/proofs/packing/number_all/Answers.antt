@@ -1,5 +1,5 @@
 -- `plainrecords::packing::number_all` meets its contract: cell after cell.
-use Prim.Native.Nat.{ℕ, ◌-◌}
+use Prim.Native.Nat.{ℕ}
 use mathlib.Core.Path.{refl}
 use native.Mathlib.Omega.{arith}
 use lib.ListN.{length-set}

@@ -5,4 +5,5 @@ use Rattle.plainrecords.proofs.packing.pack.Goals as goal
 
 pub returns : goal.returns
 returns c =
-    packed c.requires.board_marks (c.gather-count.auto.1.0 ∙ c.requires.words_len) c.requires.aims_len c.gather-count.ensures c.keep_first_words.ensures c.mark_first.ensures c.number_first.ensures
+    packed c.requires.board_marks (c.gather-count.auto.words ∙ c.requires.words_len) c.requires.aims_len c.gather-count.ensures
+    c.keep_first_words.ensures c.mark_first.ensures c.number_first.ensures

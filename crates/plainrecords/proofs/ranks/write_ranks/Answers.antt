@@ -1,5 +1,4 @@
 -- `plainrecords::ranks::write_ranks` meets its contract: the aims are filled with the running count.
-use Prim.Native.Nat.{◌-◌}
 use native.Mathlib.Omega.{arith}
 use borrow.Author.Rules.{rules}
 use Rattle.laws.proofs.Filling.{filled-start, filled_next, filled-end}
