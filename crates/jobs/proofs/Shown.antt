@@ -18,12 +18,12 @@ output_for t = output_of (text_verdict (bytes t))
 
 pub the_job :
     output_for "side\t2\n1\t70\n6\t71\n11\t72\n"
-    ≡ bytes "move\tkind\tway\tmoved\n1\t_e\tright\t1\n2\t_e\tleft\t2\n3\t_e\tup\t1\n4\t_e\tdown\t0\n5\t_o\tswap\t0\n6\t_e\tright\t0\n7\t_e\tleft\t1\n8\t_e\tup\t1\n9\t_o\tswap\t2\nall\t7\t2\t8\n0\t70\n1\t71\n2\t72\n"
+    ≡ bytes "move\tkind\tway\tmoved\n1\tE\tright\t1\n2\tE\tleft\t2\n3\tE\tup\t1\n4\tE\tdown\t0\n5\tO\tswap\t0\n6\tE\tright\t0\n7\tE\tleft\t1\n8\tE\tup\t1\n9\tO\tswap\t2\nall\t7\t2\t8\n0\t70\n1\t71\n2\t72\n"
 unfolding output_for
 the_job = refl
 
 -- side 1, its cell marked: two swaps, and nothing moves
-pub one_cell : output_for "side\t1\n0\t4294967295\n" ≡ bytes "move\tkind\tway\tmoved\n1\t_o\tswap\t0\n2\t_o\tswap\t0\nall\t0\t2\t0\n0\t4294967295\n"
+pub one_cell : output_for "side\t1\n0\t4294967295\n" ≡ bytes "move\tkind\tway\tmoved\n1\tO\tswap\t0\n2\tO\tswap\t0\nall\t0\t2\t0\n0\t4294967295\n"
 unfolding output_for
 one_cell = refl
 

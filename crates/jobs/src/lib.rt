@@ -2,7 +2,6 @@
 #![tactic(auto)]
 
 ghost use Rattle.std.specs.Prelude.{◌≡◌, true, ℕ, ◌<◌, ◌≤◌, length, get_or};
-ghost use Rattle.laws.specs.Lent.{old, new};
 ghost use Rattle.array.specs.Cells.{is_side, cells};
 ghost use Rattle.printing.specs.Buffers.{OutFilled};
 ghost use Rattle.jobtext.specs.Verdicts.{text_verdict};

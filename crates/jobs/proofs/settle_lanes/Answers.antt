@@ -3,7 +3,6 @@ use mathlib.Core.Path.{◌∙◌}
 use lib.Seq.{length-take-le}
 use Rattle.texts.proofs.Reading.{part_length}
 use Rattle.jobs.proofs.Answered.{lane_room}
-use Rattle.jobs.proofs.settle_lanes.Reads as reads
 use Rattle.jobs.proofs.settle_lanes.Goals as goal
 
 pub slice_bounds-aims-end : goal.slice_bounds-aims-end
@@ -41,18 +40,18 @@ slice_bounds-settle-end-4 c =
 pub settle-requires : goal.settle-requires
 settle-requires c =
     let p = c.requires in
-    let r = lane_room c.args.side p.0 p.1.0.0 in
+    let r = lane_room c.args.side p.side_value p.words_len.0 in
     record {
-      side = p.0;
+      side = p.side_value;
       sized = record {
-        words = p.1.0.0;
-        marks = p.1.0.1;
-        aims = length-take-le _ _ r ∙ p.1.0.0;
-        words2 = length-take-le _ _ r ∙ p.1.0.0;
-        marks2 = length-take-le _ _ r ∙ p.1.0.0;
-        aims2 = length-take-le _ _ r ∙ p.1.0.0;
+        words = p.words_len.0;
+        marks = p.words_len.1;
+        aims = length-take-le _ _ r ∙ p.words_len.0;
+        words2 = length-take-le _ _ r ∙ p.words_len.0;
+        marks2 = length-take-le _ _ r ∙ p.words_len.0;
+        aims2 = length-take-le _ _ r ∙ p.words_len.0;
       };
-      marked = p.1.1.0;
-      codes_room = p.1.1.1.0;
-      moved_room = p.1.1.1.1;
+      marked = p.by_index;
+      codes_room = p.codes_len.0;
+      moved_room = p.codes_len.1;
     }

@@ -7,14 +7,19 @@ use Rattle.jobs.proofs.solve.Goals as goal
 
 pub settle_lanes-requires : goal.settle_lanes-requires
 settle_lanes-requires c =
-    let b = c.requires in (b.side, ((b.words_long, b.marks_long), (b.good, search rules)))
+    let b = c.requires in
+    record { side_value = b.side; words_len = (b.words_long, b.marks_long); by_index = b.good; codes_len = search rules }
 
 pub print-requires : goal.print-requires
 print-requires c =
     let b = c.requires in
     let k = side_known c.args.side b.side in
-    (b.side, (omega (arith, k, b), (search rules, search rules, omega (arith, b, c.settle_lanes.auto.1.0))))
+    record {
+      side_value = b.side;
+      marked_bound = omega (arith, k, b);
+      codes_len = (search rules, search rules, omega (arith, b, c.settle_lanes.auto.words));
+    }
 
 pub returns : goal.returns
 returns c =
-    solve_filled c.requires c.settle_lanes.auto.1.0 c.settle_lanes.ensures c.print.ensures
+    solve_filled c.requires c.settle_lanes.auto.words c.settle_lanes.ensures c.print.ensures
