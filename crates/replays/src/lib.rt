@@ -2,7 +2,6 @@
 #![tactic(auto)]
 
 ghost use Rattle.std.specs.Prelude.{◌≡◌, [], ◌∷◌, length};
-ghost use Rattle.laws.specs.Lent.{old, new};
 ghost use Rattle.printing.specs.Printed.{decimal, line};
 ghost use Rattle.printing.specs.Buffers.{Written, OutFilled};
 ghost use Rattle.jobtext.specs.Verdicts.{text_verdict};
@@ -19,7 +18,7 @@ use ranking::rank;
 
 // A line of a word and a number.
 fn put_numbered(out: &mut [u8], word: &[u8], number: usize) -> usize
-    ensures { Written out.old 0 (line (old word ∷ decimal number ∷ [])) result out.new }
+    ensures { Written out.old 0 (line (word.now ∷ decimal number ∷ [])) result out.new }
 {
     let end = put(out, 0, word);
     let second = put_byte(out, end, 9);

@@ -10,4 +10,4 @@ pub slice_bounds-replay_ranked-end : goal.slice_bounds-replay_ranked-end
 slice_bounds-replay_ranked-end c = search aims_part
 
 pub replay_ranked-requires : goal.replay_ranked-requires
-replay_ranked-requires c = (search rules, search aims_part)
+replay_ranked-requires c = record { good_marks = search rules; marks_len = search aims_part }
