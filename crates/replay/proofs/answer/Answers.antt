@@ -3,7 +3,7 @@ use Rattle.printing.proofs.Filling.{filled_fits, filled-part}
 use Rattle.replay.proofs.answer.Goals as goal
 
 pub slice_bounds-out-end : goal.slice_bounds-out-end
-slice_bounds-out-end c = search filled_fits
+slice_bounds-out-end g c = filled_fits c.run-count.ensures
 
 pub slice_bounds-write_all-end : goal.slice_bounds-write_all-end
-slice_bounds-write_all-end c = search filled-part
+slice_bounds-write_all-end g c = filled-part c.run-count.ensures
