@@ -1,6 +1,6 @@
 // Lanes of which only the first cells keep what they hold.
 ghost use Rattle.std.specs.Prelude.{◌≡◌, ◌≤◌, length, get_or};
-ghost use Rattle.laws.specs.Lent.{old, new};
+ghost use Rattle.laws.specs.Lent.{new};
 ghost use Rattle.plainrecords.specs.Inside.{up_to};
 
 use clearing::{zero_aims, zero_words};

@@ -1,6 +1,6 @@
 // Concentrate in place: the words of the marked cells go to the front, and marks and aims follow from their number.
 ghost use Rattle.std.specs.Prelude.{◌≡◌, ◌≤◌, length};
-ghost use Rattle.laws.specs.Lent.{old, new};
+ghost use Rattle.laws.specs.Lent.{new};
 ghost use Rattle.laws.specs.Tables.{entries};
 ghost use Rattle.lists.specs.declared.Trip.TheVariants.{Concentrate};
 ghost use Rattle.plainrecords.specs.Inside.{BoardMarks, Gathered, up_to, Arranged};

@@ -1,6 +1,6 @@
 // Rank in one pass: each cell takes the number of marked cells before it.
 ghost use Rattle.std.specs.Prelude.{◌≡◌, cond, ◌≤◌, eqb, length};
-ghost use Rattle.laws.specs.Lent.{old, new};
+ghost use Rattle.laws.specs.Lent.{new};
 ghost use Rattle.laws.specs.Tables.{entries};
 ghost use Rattle.lists.specs.Lists.{prefix_sum_runs};
 ghost use Rattle.answers.specs.Answers.{verdict, accepted_by, without_logs};

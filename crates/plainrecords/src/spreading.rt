@@ -1,6 +1,5 @@
 // Distribute in place: every record goes from the front to the cell that its aim names, the last one first.
 ghost use Rattle.std.specs.Prelude.{◌≡◌, ◌≤◌, length};
-ghost use Rattle.laws.specs.Lent.{old};
 ghost use Rattle.lists.specs.declared.Trip.TheVariants.{Distribute};
 ghost use Rattle.plainrecords.specs.Inside.{TripLanes, last_goes, Ready, Scattered, Arranged};
 
