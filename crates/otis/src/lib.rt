@@ -3,7 +3,6 @@
 #![tactic(auto)]
 
 ghost use Rattle.std.specs.Prelude.{◌≡◌};
-ghost use Rattle.laws.specs.Lent.{old};
 ghost use Rattle.captures.specs.Replays.{replay_of};
 ghost use Rattle.lists.specs.declared.Trip.TheVariants.{Concentrate, Distribute};
 ghost use Rattle.ranking.specs.Entries.{Ranked};
@@ -26,7 +25,7 @@ pub extern "C" fn otis_version() -> u32
 
 #[unsafe(no_mangle)]
 pub extern "C" fn otis_rank(side: usize, marks: &[u8], aims: &mut [u16], codes: &mut [u8]) -> Answer
-    ensures { Ranked side marks aims codes result }
+    ensures { Ranked side marks.now aims codes result }
 {
     rank(side, marks, aims, codes)
 }
@@ -88,7 +87,7 @@ pub extern "C" fn otis_distribute(
 // The final table at once, without moves and without logs.
 #[unsafe(no_mangle)]
 pub extern "C" fn otis_plain_rank(side: usize, marks: &[u8], aims: &mut [u16]) -> Answer
-    ensures { PlainRank side marks aims result }
+    ensures { PlainRank side marks.now aims result }
 {
     plainrecords::rank(side, marks, aims)
 }
