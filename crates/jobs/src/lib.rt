@@ -36,7 +36,7 @@ fn print(
 ) -> usize
     requires side_value { is_side side ≡ true }
     requires marked_bound { marked ≤ 4096 }
-    requires codes_len { (length codes.now ≡ 51) × (length moved.now ≡ 51) × (marked ≤ length words.now) }
+    requires lent_long { (length codes.now ≡ 51) × (length moved.now ≡ 51) × (marked ≤ length words.now) }
     ensures { OutFilled out.old (printed_of side marked codes.now moved.now words.now) result out.new }
 {
     let moves = total_moves(side);
@@ -81,9 +81,9 @@ fn settle_lanes(
     moved: &mut [u16],
 )
     requires side_value { is_side side ≡ true }
-    requires words_len { (length words.old ≡ cells side) × (length marks.old ≡ cells side) }
-    requires by_index { (k : ℕ) → k < length marks.old → get_or marks.old k 0 < 2 }
-    requires codes_len { (length codes.old ≡ 51) × (length moved.old ≡ 51) }
+    requires lanes_long { (length words.old ≡ cells side) × (length marks.old ≡ cells side) }
+    requires good_marks { (k : ℕ) → k < length marks.old → get_or marks.old k 0 < 2 }
+    requires logs_long { (length codes.old ≡ 51) × (length moved.old ≡ 51) }
     ensures { Settled side words.old marks.old words.new codes.new moved.new }
 {
     let n = words.len();

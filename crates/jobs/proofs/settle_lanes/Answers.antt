@@ -7,51 +7,51 @@ use Rattle.jobs.proofs.settle_lanes.Goals as goal
 
 pub slice_bounds-aims-end : goal.slice_bounds-aims-end
 slice_bounds-aims-end c =
-    lane_room c.args.side c.requires.side_value c.requires.words_len.0
+    lane_room c.args.side c.requires.side_value c.requires.lanes_long.0
 
 pub slice_bounds-settle-end : goal.slice_bounds-settle-end
 slice_bounds-settle-end c =
-    part_length _ _ (lane_room c.args.side c.requires.side_value c.requires.words_len.0)
+    part_length _ _ (lane_room c.args.side c.requires.side_value c.requires.lanes_long.0)
 
 pub slice_bounds-spare_words-end : goal.slice_bounds-spare_words-end
 slice_bounds-spare_words-end c =
-    lane_room c.args.side c.requires.side_value c.requires.words_len.0
+    lane_room c.args.side c.requires.side_value c.requires.lanes_long.0
 
 pub slice_bounds-settle-end-2 : goal.slice_bounds-settle-end-2
 slice_bounds-settle-end-2 c =
-    part_length _ _ (lane_room c.args.side c.requires.side_value c.requires.words_len.0)
+    part_length _ _ (lane_room c.args.side c.requires.side_value c.requires.lanes_long.0)
 
 pub slice_bounds-spare_marks-end : goal.slice_bounds-spare_marks-end
 slice_bounds-spare_marks-end c =
-    lane_room c.args.side c.requires.side_value c.requires.words_len.0
+    lane_room c.args.side c.requires.side_value c.requires.lanes_long.0
 
 pub slice_bounds-settle-end-3 : goal.slice_bounds-settle-end-3
 slice_bounds-settle-end-3 c =
-    part_length _ _ (lane_room c.args.side c.requires.side_value c.requires.words_len.0)
+    part_length _ _ (lane_room c.args.side c.requires.side_value c.requires.lanes_long.0)
 
 pub slice_bounds-spare_aims-end : goal.slice_bounds-spare_aims-end
 slice_bounds-spare_aims-end c =
-    lane_room c.args.side c.requires.side_value c.requires.words_len.0
+    lane_room c.args.side c.requires.side_value c.requires.lanes_long.0
 
 pub slice_bounds-settle-end-4 : goal.slice_bounds-settle-end-4
 slice_bounds-settle-end-4 c =
-    part_length _ _ (lane_room c.args.side c.requires.side_value c.requires.words_len.0)
+    part_length _ _ (lane_room c.args.side c.requires.side_value c.requires.lanes_long.0)
 
 pub settle-requires : goal.settle-requires
 settle-requires c =
     let p = c.requires in
-    let r = lane_room c.args.side p.side_value p.words_len.0 in
+    let r = lane_room c.args.side p.side_value p.lanes_long.0 in
     record {
       side = p.side_value;
       sized = record {
-        words = p.words_len.0;
-        marks = p.words_len.1;
-        aims = length-take-le _ _ r ∙ p.words_len.0;
-        words2 = length-take-le _ _ r ∙ p.words_len.0;
-        marks2 = length-take-le _ _ r ∙ p.words_len.0;
-        aims2 = length-take-le _ _ r ∙ p.words_len.0;
+        words = p.lanes_long.0;
+        marks = p.lanes_long.1;
+        aims = length-take-le _ _ r ∙ p.lanes_long.0;
+        words2 = length-take-le _ _ r ∙ p.lanes_long.0;
+        marks2 = length-take-le _ _ r ∙ p.lanes_long.0;
+        aims2 = length-take-le _ _ r ∙ p.lanes_long.0;
       };
-      marked = p.by_index;
-      codes_room = p.codes_len.0;
-      moved_room = p.codes_len.1;
+      marked = p.good_marks;
+      codes_room = p.logs_long.0;
+      moved_room = p.logs_long.1;
     }

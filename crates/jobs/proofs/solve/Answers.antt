@@ -8,7 +8,7 @@ use Rattle.jobs.proofs.solve.Goals as goal
 pub settle_lanes-requires : goal.settle_lanes-requires
 settle_lanes-requires c =
     let b = c.requires in
-    record { side_value = b.side; words_len = (b.words_long, b.marks_long); by_index = b.good; codes_len = search rules }
+    record { side_value = b.side; lanes_long = (b.words_long, b.marks_long); good_marks = b.good; logs_long = search rules }
 
 pub print-requires : goal.print-requires
 print-requires c =
@@ -17,7 +17,7 @@ print-requires c =
     record {
       side_value = b.side;
       marked_bound = omega (arith, k, b);
-      codes_len = (search rules, search rules, omega (arith, b, c.settle_lanes.auto.words));
+      lent_long = (search rules, search rules, omega (arith, b, c.settle_lanes.auto.words));
     }
 
 pub returns : goal.returns
