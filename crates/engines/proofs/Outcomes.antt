@@ -1,4 +1,4 @@
--- Two outcomes of a plain entry for one input are the same lists, with the same answer; of concentrate and distribute in Records.antt, `plain-run-same`.
+-- Two outcomes of a plain entry for one input are the same lists, with the same answer; of concentrate and distribute in Records.antt, `plain_run_same`.
 use Prim.Native.Nat.{ℕ}
 use mathlib.Core.Path.{◌≡◌, sym, ap, ap₂, ◌∙◌}
 use mathlib.Core.List.{List}

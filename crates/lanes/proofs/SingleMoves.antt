@@ -32,7 +32,7 @@ after-all-moves s (t ∷ ts) σ =
     let f : n + length (moves (stage_runs ts)) - n ≡ length (moves (stage_runs ts)) = omega arith in
     rw (e, le-ltb (n + length (moves (stage_runs ts))) n (omega arith), f) (after-all-moves s ts (all s t σ))
 
--- the move after the first k is that of the list, and one move of the machine, in which each cell hands on what `handedOn` says
+-- the move after the first k is that of the list, and one move of the machine, in which each cell hands on what `handed_on` says
 pub record OneMove {R A : Type 0} (s : ℕ) (ts : List (Stage R A)) (k : ℕ) (σ : State R) : Type 0 where
   pub stage : Stage R A
   pub number : ℕ

@@ -1,4 +1,4 @@
--- The numbers of each table of cases do not fall, so the first case that applies is the lowest number (`answers` proofs/Lowest.antt `lowest-given`).
+-- The numbers of each table of cases do not fall, so the first case that applies is the lowest number (`answers` proofs/Lowest.antt `lowest_given`).
 use Rattle.std.proofs.Common.{◌≡◌, ℕ, true, List, ℤ, refl}
 use Rattle.runs.specs.declared.Run.{Run}
 use Rattle.shiftlists.specs.declared.Axis.{Axis}

@@ -1,4 +1,4 @@
--- The numbers of the table of cases do not fall, so the first case that applies is the lowest number (`answers` proofs/Lowest.antt `lowest-given`).
+-- The numbers of the table of cases do not fall, so the first case that applies is the lowest number (`answers` proofs/Lowest.antt `lowest_given`).
 use Prim.Native.Nat.{ℕ}
 use mathlib.Core.Path.{◌≡◌, refl}
 use mathlib.Core.Bool.{true}

@@ -3,7 +3,7 @@
 -- rank r stands by itself in cell r; and the list has exactly 7(s − 1) electronic moves and two by light.
 -- A cell's slots are its front lanes and its spare lanes. What concentrate promises of its lanes after n moves is `Stood Concentrate s n` (specs/Entries.antt), so each
 -- theorem here begins from that promise, and from marks and aims that were not refused, `Good` (what that is for concentrate says `RankedAims`).
--- The last two, `cut-records` and `full-records`, begin from what an entry was lent alone: they say that it is accepted too.
+-- The last two, `cut_records` and `full_records`, begin from what an entry was lent alone: they say that it is accepted too.
 use Prim.Native.Nat.{ℕ, ◌-◌, ◌*◌, ◌≤◌, ◌<◌}
 use mathlib.Core.Path.{◌≡◌, refl, sym, ap, ◌∙◌}
 use mathlib.Core.Bool.{true}

@@ -1,5 +1,5 @@
 -- For all that distribute takes there is a concentrate that it runs back: one mark in each cell that an aim names, with the ranks of these marks.
--- So `state-by-state` (Backwards.antt) speaks of every run of distribute.
+-- So `state_by_state` (Backwards.antt) speaks of every run of distribute.
 use Prim.Native.Nat.{ℕ, zero, suc, ◌+◌, ◌-◌, ◌≤◌, ◌<◌}
 use mathlib.Core.Path.{◌≡◌, refl, sym, ap, ◌∙◌}
 use mathlib.Core.Bool.{Bool, true, false, cond}

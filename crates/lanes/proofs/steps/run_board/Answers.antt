@@ -1,4 +1,4 @@
--- `lanes::steps::run_board` meets its contract: move by move, by `run-next`.
+-- `lanes::steps::run_board` meets its contract: move by move, by `run_next`.
 use native.Mathlib.Omega.{arith}
 use mathlib.Core.Path.{◌≡◌, refl, ◌∙◌}
 use borrow.Author.Rules.{rules}

@@ -1,4 +1,4 @@
--- `lanes::steps::run_board` meets its contract: move by move, by `run-next`.
+-- `lanes::steps::run_board` meets its contract: move by move, by `run_next`.
 use Prim.Native.Nat.{◌≤◌, ◌-◌}
 use mathlib.Core.Path.{◌≡◌}
 use lib.ListN.{length}
