@@ -63,10 +63,10 @@ rank_logged s marks aims log = record {
   later = λ h. (λ k. refl, (λ k. refl, (λ k. refl, (λ k. refl, tt))));
 }
 
-pub rank_agrees : (s : ℕ) (marks marks' aims aims' codes : Lent) {r p : Answer} → old marks ≡ old marks' → old aims ≡ old aims'
+pub rank_agrees : (s : ℕ) (marks marks' : List ℕ) (aims aims' codes : Lent) {r p : Answer} → marks ≡ marks' → old aims ≡ old aims'
     → Ranked s marks aims codes r → PlainRank s marks' aims' p → EnginesAgree (has_room (prefix_sum_runs s) (length (old codes))) r p (new aims ≡ new aims')
 rank_agrees s marks marks' aims aims' codes e f z z' =
-    engines_agree (rank_logged s (old marks) (length (old aims)) (length (old codes)))
+    engines_agree (rank_logged s marks (length (old aims)) (length (old codes)))
     (ap₂ (λ (m a : List ℕ). without_logs (rank_cases s m (length a) 0)) e f) z z'
     (λ h l l'. l ∙ ap (ranks s) e ∙ sym l') (λ k k'. k.0 ∙ f ∙ sym k')
 

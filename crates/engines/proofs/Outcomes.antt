@@ -20,7 +20,7 @@ pub plain-words-same : (cases : ℕ → ℕ → List Case) (list : List Run) (re
 plain-words-same cases list result words words' e z z' =
     plain-same (ap (λ (l : List ℕ). without_logs (cases (length l) 0)) e) z z' (λ h l l'. l ∙ ap result e ∙ sym l') (λ k k'. k ∙ e ∙ sym k')
 
-pub plain-rank-same : (s : ℕ) (marks marks' aims aims' : Lent) {p p' : Answer} → old marks ≡ old marks' → old aims ≡ old aims'
+pub plain-rank-same : (s : ℕ) (marks marks' : List ℕ) (aims aims' : Lent) {p p' : Answer} → marks ≡ marks' → old aims ≡ old aims'
     → PlainRank s marks aims p → PlainRank s marks' aims' p' → (p ≡ p') × (new aims ≡ new aims')
 plain-rank-same s marks marks' aims aims' e f z z' =
     plain-same (ap₂ (λ (m a : List ℕ). without_logs (rank_cases s m (length a) 0)) e f) z z' (λ h l l'. l ∙ ap (ranks s) e ∙ sym l') (λ k k'. k ∙ f ∙ sym k')
