@@ -41,34 +41,31 @@ pub(crate) fn no_records() -> Records
     }
 }
 
-// With the record of a slot, where there is one.
-fn with_slot(records: Records, cell: usize, slot: usize, rec: Rec) -> Records
-    requires { Roomy 161 records }
-    ensures { WithMore (held_in cell slot rec) 1 records result }
+// Puts the record of a slot behind the others, where there is one.
+fn with_slot(records: &mut Records, cell: usize, slot: usize, rec: Rec)
+    requires { Roomy 161 records.old }
+    ensures { WithMore (held_in cell slot rec) 1 records.old records.new }
 {
     if rec.mark == 0 {
-        return records;
+        return;
     }
     let count = records.count;
-    let mut list = records.list;
-    list[count] = Held {
+    records.list[count] = Held {
         cell: cell,
         slot: slot,
         word: rec.word,
         aim: rec.aim as u32,
     };
-    Records {
-        list: list,
-        count: count + 1,
-    }
+    records.count = count + 1;
 }
 
-// With those of a cell.
-fn with_cell(records: Records, cell: usize, front: Rec, spare: Rec) -> Records
-    requires { Roomy 160 records }
-    ensures { WithMore (held_in cell 0 front ++ held_in cell 1 spare) 2 records result }
+// And those of a cell.
+fn with_cell(records: &mut Records, cell: usize, front: Rec, spare: Rec)
+    requires { Roomy 160 records.old }
+    ensures { WithMore (held_in cell 0 front ++ held_in cell 1 spare) 2 records.old records.new }
 {
-    with_slot(with_slot(records, cell, 0, front), cell, 1, spare)
+    with_slot(records, cell, 0, front);
+    with_slot(records, cell, 1, spare);
 }
 
 fn holds_none(front: Rec, spare: Rec) -> bool
@@ -77,7 +74,7 @@ fn holds_none(front: Rec, spare: Rec) -> bool
     front.mark == 0 && spare.mark == 0
 }
 
-// The records of n cells. A cell that holds none is passed over: to hand the list on for it costs a copy of the whole.
+// The records of n cells. A cell that holds none is passed over.
 fn records_in(
     n: usize,
     words: &[u32],
@@ -105,7 +102,7 @@ fn records_in(
             aim: spare_aims[i],
         };
         if !holds_none(front, spare) {
-            records = with_cell(records, i, front, spare);
+            with_cell(&mut records, i, front, spare);
         }
         i += 1;
     }

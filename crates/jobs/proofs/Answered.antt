@@ -15,7 +15,7 @@ use Rattle.array.proofs.Board.{side_known}
 use Rattle.lists.specs.declared.Trip.TheVariants.{Concentrate}
 use Rattle.marks.specs.Marks.{rank_in}
 use Rattle.records.specs.Records.{marked_cell, count_in, moved_counts}
-use Rattle.records.proofs.Marked.{cell-group-place}
+use Rattle.records.proofs.Marked.{marked_cell-rank_in}
 use Rattle.jobtext.specs.declared.Job.{Job}
 use Rattle.jobtext.specs.declared.Job.TheVariants.{Ready, Refused}
 use Rattle.jobtext.specs.Verdicts.{CellWord, TextVerdict, is_job, text_verdict}
@@ -70,7 +70,7 @@ module _ (s : ℕ) (es : List CellWord) (side : is_side s ≡ true) (d : Rising 
       let i = home_in (cells s) es 0 r h d in
       let e : rank_in marks (home_of es r) ≡ r = rank_same (home_of es r) (omega (arith, i.1)) ∙ ranked es (cells s) few d r h in
       let o : get_or marks (home_of es r) 0 ≡ 1 = part_at s es side d (λ e. 1) (home_of es r) i.1 ∙ home_marked es (cells s) few d r h in
-      ap (marked_cell marks (cells s)) (sym e) ∙ cell-group-place marks (cells s) (home_of es r) i.1 o
+      ap (marked_cell marks (cells s)) (sym e) ∙ marked_cell-rank_in marks (cells s) (home_of es r) i.1 o
 
   small : length es ≤ cells s
   small = omega (arith, few_cells es 0 (cells s) (omega arith) d)

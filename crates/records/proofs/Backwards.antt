@@ -21,7 +21,7 @@ use Rattle.refusals.specs.Cases.{Good}
 use Rattle.records.specs.Records.{marked_cell, count_in, record_of, cell_of}
 use Rattle.records.specs.Entries.{Stood}
 use Rattle.refusals.proofs.Aims.{RankedAims, Aimed, good_ranked, good_aimed}
-use Rattle.records.proofs.Marked.{start_rises, start_inside, start_rising, first_rising, rank_past, cell-group-place, found}
+use Rattle.records.proofs.Marked.{start_rises, start_inside, start_rising, first_rising, rank_past, marked_cell-rank_in, found}
 use Rattle.records.proofs.Demand3.{Slot, Front, Spare, slot, holds, end-alone, distribute_alone, distribute_empty}
 
 -- two slots hold the same record, as one list shows it and as the other does, or neither holds anything
@@ -88,7 +88,7 @@ module _ {s : ℕ} (pos : 0 < s) {marks aims marks₂ aims₂ : List ℕ} (long 
         let r = rank_in marks i in
         let l : r < count_in s marks = rank_past marks i (cells s) h e in
         let l₂ : r < count_in s marks₂ = omega (arith, l, as_many) in
-        let c : marked_cell marks (cells s) r ≡ i = cell-group-place marks (cells s) i h e in
+        let c : marked_cell marks (cells s) r ≡ i = marked_cell-rank_in marks (cells s) i h e in
         let a : get_or aims₂ r 0 ≡ i = back r l ∙ c in
         let moved = ap (λ (x : Cell). x.front.word) (end-alone pos long good words there r l (omega (arith, l₂, aimed.few))) in
         let w : get_or words₂ r 0 ≡ get_or words i 0 = same_words r l ∙ moved ∙ ap (λ (k : ℕ). get_or words k 0) c in

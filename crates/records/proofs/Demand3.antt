@@ -45,7 +45,7 @@ use Rattle.records.specs.Entries.{Stood, sizes_of, FullRun, CutRun}
 use Rattle.refusals.proofs.Verdicting.{Fitting}
 use Rattle.refusals.proofs.Accepting.{Asked, asked_good, full_accepted, cut_accepted}
 use Rattle.refusals.proofs.Aims.{RankedAims, Aimed, good_ranked, good_aimed, few_marked}
-use Rattle.records.proofs.Marked.{start_rises, start_inside, start_aims, start_rising, cell-group-place, rank_past, Found, found, first_rising, aims_rise, fits_alone}
+use Rattle.records.proofs.Marked.{start_rises, start_inside, start_aims, start_rising, marked_cell-rank_in, rank_past, Found, found, first_rising, aims_rise, fits_alone}
 
 -- the slots of a cell: the front lanes, or the spare ones
 pub data Slot : Type 0 where
@@ -177,7 +177,7 @@ module _ {s : ℕ} (pos : 0 < s) {marks aims : List ℕ} (long : length marks �
   records_marked r h = found marks (cells s) r ranked.mark h
 
   pub records_all : (i : ℕ) → i < cells s → get_or marks i 0 ≡ 1 → (rank_in marks i < count_in s marks) × (marked_cell marks (cells s) (rank_in marks i) ≡ i)
-  records_all i h e = (rank_past marks i (cells s) h e, cell-group-place marks (cells s) i h e)
+  records_all i h e = (rank_past marks i (cells s) h e, marked_cell-rank_in marks (cells s) i h e)
 
   pub records_ranked : (r : ℕ) → r < count_in s marks → (record_of Concentrate s words marks aims r).aim ≡ r
   records_ranked = start_aims s words marks aims ranked

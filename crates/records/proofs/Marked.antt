@@ -48,10 +48,10 @@ module _ (marks : List ℕ) where
       go true e false f g = up (g (omega (arith, eqb-true (get_or marks n 0) 1 e, eqb-false (rank_in marks n) r f)))
       go false e c f g = up (g (omega (arith, h n (omega arith), eqb-false (get_or marks n 0) 1 e)))
 
-  pub cell-group-place : (n j : ℕ) → j < n → get_or marks j 0 ≡ 1 → marked_cell marks n (rank_in marks j) ≡ j
+  pub marked_cell-rank_in : (n j : ℕ) → j < n → get_or marks j 0 ≡ 1 → marked_cell marks n (rank_in marks j) ≡ j
   unfolding marked_cell
-  cell-group-place zero j h e = absurd (omega arith)
-  cell-group-place (suc n) j h e = ⊎_elim here (λ d. before d (cell-group-place n j (omega (arith, d)) e)) (same? j n)
+  marked_cell-rank_in zero j h e = absurd (omega arith)
+  marked_cell-rank_in (suc n) j h e = ⊎_elim here (λ d. before d (marked_cell-rank_in n j (omega (arith, d)) e)) (same? j n)
     where
       here : j ≡ n → cond (eqb (get_or marks n 0) 1) (cond (eqb (rank_in marks n) (rank_in marks j)) n (marked_cell marks n (rank_in marks j))) (marked_cell marks n (rank_in marks j)) ≡ j
       here d = rw (← d) (rw (eq-eqb (get_or marks j 0) 1 e, eq-eqb (rank_in marks j) (rank_in marks j) refl))
@@ -125,7 +125,7 @@ module _ (s : ℕ) (words marks aims : List ℕ) where
       where
         go : (j : ℕ) → j < cells s → (get_or marks j 0 ≡ 1) ⊎ (get_or marks j 0 ≡ 1 → ⊥) → Holds (λ r. here (start r)) (At b start j) (C j)
         go j u (inl m) =
-            let c = cell-group-place marks (cells s) j u m in
+            let c = marked_cell-rank_in marks (cells s) j u m in
             hold1 (rank_in marks j) (e.cells j u ∙ rw (eq-eqb (get_or marks j 0) 1 m) (ap (λ (i : ℕ). alone (here i)) (sym c))) (rank_past marks j (cells s) u m, c)
             (λ k q. sym (at k q.0).rank ∙ ap (rank_in marks) q.1)
         go j u (inr d) = hold0 (e.cells j u ∙ rw (ne_eqb (get_or marks j 0) 1 d)) (λ k q. d (ap (λ (i : ℕ). get_or marks i 0) (sym q.1) ∙ (at k q.0).marked))

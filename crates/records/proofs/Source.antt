@@ -25,7 +25,7 @@ use Rattle.refusals.proofs.Aims.{Aimed, good_aimed}
 use Rattle.refusals.proofs.Accepting.{ranked_good}
 use Rattle.records.specs.Records.{marked_cell, count_in, record_of}
 use Rattle.records.specs.Entries.{Stood}
-use Rattle.records.proofs.Marked.{aims_rise, cell-group-place}
+use Rattle.records.proofs.Marked.{aims_rise, marked_cell-rank_in}
 use Rattle.records.proofs.Demand3.{Slot, slot}
 use Rattle.records.proofs.Backwards.{Alike, state_by_state}
 
@@ -133,7 +133,7 @@ module _ (s : ℕ) (marks₂ aims₂ : List ℕ) (long₂ : length marks₂ ≡ 
       let i = get_or aims₂ r 0 in
       let l : i < cells s = aimed.below r h in
       let rank : rank_in marks i ≡ r = before i (omega arith) ∙ rank-named aims₂ b r h rise in
-      sym (ap (marked_cell marks (cells s)) (sym rank) ∙ cell-group-place marks (cells s) i l (at i l ∙ is_named aims₂ b r h))
+      sym (ap (marked_cell marks (cells s)) (sym rank) ∙ marked_cell-rank_in marks (cells s) i l (at i l ∙ is_named aims₂ b r h))
 
   pub source : Source s marks₂ aims₂ marks (named_ranks s b aims₂)
   source = record {

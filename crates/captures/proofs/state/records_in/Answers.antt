@@ -9,15 +9,15 @@ use Rattle.captures.proofs.state.records_in.Goals.{then-not-holds_none, else-not
 pub loop-i-init : goal.loop-i-init
 loop-i-init c = (omega arith, gathered-start _ c.no_records-records.ensures)
 
-pub with_cell-records-requires : goal.with_cell-records-requires
-with_cell-records-requires c = search gathered_room
+pub with_cell-requires : goal.with_cell-requires
+with_cell-requires c = search gathered_room
 
 pub loop-i-preserved : goal.loop-i-preserved
 loop-i-preserved c =
     let z = c.loop-i.invariant.1 in (
       search rules,
       elim c.if-not-holds_none.branch [
-        | then-not-holds_none w ↦ rw w.records-is (gathered_next _ z w.with_cell-records.ensures)
+        | then-not-holds_none w ↦ rw w.records-is (gathered_next _ z w.with_cell.ensures)
         | else-not-holds_none w ↦ rw w.records-is (gathered-over _ z (passed c.holds_none.ensures w.if-not-holds_none.false))
       ],
     )

@@ -8,4 +8,4 @@ returns-then-rec-eq0 c = search slot-empty
 
 pub returns : goal.returns
 returns c =
-    slot_held c.args.cell c.args.slot c.args.rec c.args.records c.requires (search rules)
+    slot_held c.args.cell c.args.slot c.args.rec c.args.records.now c.requires (search rules)
