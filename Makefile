@@ -4,7 +4,7 @@
 help:
 	@echo 'make run            the moves of an example job; make run JOB=FILE: of another'
 	@echo 'make replay         whether a captured run follows the rule; make replay JOB=FILE CAPTURE=FILE: of others'
-	@echo 'make test           the whole test, from nothing: half an hour or more'
+	@echo 'make test           the whole test; on a new machine it takes an hour or more'
 	@echo 'make lib            the archive for C, target/lib/libotis.a, to use with include/otis.h'
 	@echo 'make bench          times of both engines against C functions of the same'
 	@echo 'make stack          how much stack every entry takes at side 8'
