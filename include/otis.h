@@ -84,7 +84,7 @@ uint32_t otis_version(void);
 #define OTIS_MAX_MOVES 51
 
 /* How many bytes of stack a call takes at most, at any side: for the size of a thread's stack. Measured by painting the stack
- * (bench/c/stack.c): rank takes some 66,000, concentrate and distribute some 2,000, the replay some 19,000. The plain
+ * (bench/c/stack.c): rank takes some 66,000, concentrate and distribute some 2,000, the replay some 8,000. The plain
  * number is for each of the plain functions, which keep no table. The tests hold the archive to these numbers; they are those of
  * the archive that this header came with, and an older one took more. */
 #define OTIS_RANK_STACK 73728

@@ -6,7 +6,7 @@ use Rattle.runs.specs.declared.Run.{Run}
 use Rattle.array.specs.Moves.{code_of}
 use Rattle.runs.specs.Runs.{moves, codes}
 use Rattle.answers.specs.declared.Answer.{Answer}
-use Rattle.answers.specs.declared.Case.{Case}
+use Rattle.answers.specs.Answers.{Case}
 use Rattle.answers.specs.Answers.{accepted_by, verdict, log_case}
 use Rattle.answers.specs.Entry.{Entry, in_front}
 

@@ -1,5 +1,6 @@
 pub mod Counting
 pub mod Entering
+pub mod Judging
 pub mod Lowest
 pub mod Outcomes
 pub mod Verdicts

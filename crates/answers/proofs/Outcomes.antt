@@ -5,7 +5,7 @@ use Rattle.laws.specs.Lent.{Lent}
 use Rattle.laws.proofs.Deciding.{same?}
 use Rattle.runs.specs.declared.Run.{Run}
 use Rattle.answers.specs.declared.Answer.{Answer}
-use Rattle.answers.specs.declared.Case.{Case}
+use Rattle.answers.specs.Answers.{Case}
 use Rattle.answers.specs.Entry.{Entry}
 
 -- the same loan, with these numbers in it afterwards. Of a loan a contract reads what it held and what it holds, and no more

@@ -3,7 +3,7 @@ use Rattle.std.proofs.Common.{◌≡◌, ℕ, ◌^◌, ◌<◌, ◌≤◌, Bool,
 use borrow.Author.Tests.{not-false}
 use Rattle.laws.proofs.Bools.{both_left, both_right}
 use Rattle.answers.specs.declared.Answer.{Answer}
-use Rattle.answers.specs.declared.Case.{Case}
+use Rattle.answers.specs.Answers.{Case}
 use Rattle.runs.specs.declared.Run.{Run}
 use Rattle.array.specs.Cells.{is_side, cells}
 use Rattle.runs.specs.Runs.{moves, electronic, swaps}

@@ -1,7 +1,9 @@
 -- What an entry answers: the first of its cases that applies, or that it was accepted.
-use Rattle.std.specs.Prelude.{ℕ, ◌%◌, ◌^◌, Bool, cond, not, List, [], ◌∷◌, length, ◌==◌, nat_lt}
+use Rattle.std.specs.Prelude.{ℕ, ◌%◌, ◌^◌, Bool, cond, not, List, [], ◌∷◌, length, ◌==◌, nat_lt, Result, Ok, Err}
 use Rattle.answers.specs.declared.Answer.{Answer}
-use Rattle.answers.specs.declared.Case.{Case}
+use Rattle.answers.specs.declared.Moves.{Moves}
+use Rattle.answers.specs.declared.Refusal.{Refusal}
+use Rattle.answers.specs.declared.Refusal.TheVariants.{Side, Lane, Log, Argument, Mark, Aim, Cut, Job, Capture}
 use Rattle.runs.specs.declared.Run.{Run}
 use Rattle.array.specs.Cells.{is_side, is_cell, cells}
 use Rattle.runs.specs.Runs.{moves, electronic, swaps}
@@ -12,11 +14,44 @@ refused number place = record { number = number; place = place; electronic = 0; 
 abbrev pub accepted : ℕ → ℕ → Answer
 accepted electronic swaps = record { number = 0; place = 0; electronic = electronic; swaps = swaps }
 
+-- the number of a refusal, and the place that it names, or 0
+abbrev pub number_of : Refusal → ℕ
+number_of Side = 1
+number_of Lane = 2
+number_of Log = 3
+number_of Argument = 4
+number_of (Mark i) = 5
+number_of (Aim i) = 6
+number_of Cut = 7
+number_of (Job l) = 8
+number_of (Capture l) = 10
+
+abbrev pub place_of : Refusal → ℕ
+place_of Side = 0
+place_of Lane = 0
+place_of Log = 0
+place_of Argument = 0
+place_of (Mark i) = i
+place_of (Aim i) = i
+place_of Cut = 0
+place_of (Job l) = l
+place_of (Capture l) = l
+
+-- what an entry returns, as an answer
+abbrev pub answer_of : Result Moves Refusal → Answer
+answer_of (Ok m) = accepted m.electronic m.swaps
+answer_of (Err e) = refused (number_of e) (place_of e)
+
 -- the answer of a list that was made; a count takes 64 bits
 abbrev pub accepted_by : List Run → Answer
 accepted_by rs = accepted (electronic rs % 2 ^ 64) (swaps rs % 2 ^ 64)
 
 -- a case: whether it applies, and the number and the place of its refusal
+pub record Case : Type 0 where
+  pub applies : Bool
+  pub number : ℕ
+  pub place : ℕ
+
 abbrev pub case_of : Bool → ℕ → ℕ → Case
 case_of applies number place = record { applies = applies; number = number; place = place }
 

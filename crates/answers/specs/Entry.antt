@@ -4,7 +4,7 @@ use Rattle.laws.specs.Lent.{Lent, old, new}
 use Rattle.runs.specs.declared.Run.{Run}
 use Rattle.runs.specs.Runs.{codes}
 use Rattle.answers.specs.declared.Answer.{Answer}
-use Rattle.answers.specs.declared.Case.{Case}
+use Rattle.answers.specs.Answers.{Case}
 use Rattle.answers.specs.Answers.{verdict, accepted_by}
 
 -- the answer is the verdict of the cases, with the counts of the list; accepted, the lanes and the logs are these; refused, all is as it was

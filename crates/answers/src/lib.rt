@@ -1,16 +1,68 @@
-// How an entry answers: the first of its cases that applies, in the order of their numbers, or that it was accepted.
+// How an entry answers: the moves that it made, or the first refusal that applies, in the order of their numbers.
 #![tactic(auto)]
 
-ghost use Rattle.std.specs.Prelude.{◌≡◌, [], ◌∷◌, length as length_of, nat_lt};
-ghost use Rattle.runs.specs.Runs.{moves};
-ghost use Rattle.answers.specs.Answers.{refused as refused_of, accepted as accepted_of, accepted_by, case_of, refusing as refusing_of, verdict, side_case, lane_case, log_case, cell_case};
+ghost use Rattle.std.specs.Prelude.{◌≡◌, [], ◌∷◌};
+ghost use Rattle.answers.specs.Answers.{number_of, place_of, answer_of, accepted_by, side_case, lane_case, log_case, cell_case};
+ghost use Rattle.answers.specs.Judged.{Judged};
 
 use array::cells::{is_cell, is_cells, is_side};
-use runs::{Found, Run, electronic_in, step_at, swaps_in};
+use runs::{Run, electronic_in, step_at, swaps_in};
 
-// The refusal number, or 0; the place that it names; the moves that were made.
+// Why an entry refuses, in the order of the numbers. Some name a place: a cell, or a line of a text.
+#[derive(Clone, Copy, Debug, PartialEq, Eq)]
+pub enum Refusal {
+    Side,
+    Lane,
+    Log,
+    Argument,
+    Mark(usize),
+    Aim(usize),
+    Cut,
+    Job(usize),
+    Capture(usize),
+}
+
+impl Refusal {
+    pub fn number(self) -> usize
+        ensures { result ≡ number_of self }
+    {
+        match self {
+            Refusal::Side => 1,
+            Refusal::Lane => 2,
+            Refusal::Log => 3,
+            Refusal::Argument => 4,
+            Refusal::Mark(_) => 5,
+            Refusal::Aim(_) => 6,
+            Refusal::Cut => 7,
+            Refusal::Job(_) => 8,
+            Refusal::Capture(_) => 10,
+        }
+    }
+
+    // The place that it names, or 0.
+    pub fn place(self) -> usize
+        ensures { result ≡ place_of self }
+    {
+        match self {
+            Refusal::Mark(cell) => cell,
+            Refusal::Aim(cell) => cell,
+            Refusal::Job(line) => line,
+            Refusal::Capture(line) => line,
+            _ => 0,
+        }
+    }
+}
+
+// How many moves were made.
+#[derive(Clone, Copy, Debug, PartialEq, Eq)]
+pub struct Moves {
+    pub electronic: usize,
+    pub swaps: usize,
+}
+
+// An answer in four numbers, as C takes it: the refusal number, or 0; the place that it names; the moves that were made.
 #[repr(C)]
-#[derive(Clone, Copy)]
+#[derive(Clone, Copy, Debug, PartialEq, Eq)]
 pub struct Answer {
     pub number: usize,
     pub place: usize,
@@ -18,113 +70,77 @@ pub struct Answer {
     pub swaps: usize,
 }
 
-// A case in which an entry refuses.
-#[derive(Clone, Copy)]
-pub struct Case {
-    pub applies: bool,
-    pub number: usize,
-    pub place: usize,
-}
+impl From<Result<Moves, Refusal>> for Answer {
+    ghost from_gives = { λ outcome answer. answer ≡ answer_of outcome };
 
-fn refused(number: usize, place: usize) -> Answer
-    ensures { result ≡ refused_of number place }
-{
-    Answer {
-        number: number,
-        place: place,
-        electronic: 0,
-        swaps: 0,
+    fn from(outcome: Result<Moves, Refusal>) -> Answer {
+        match outcome {
+            Ok(moves) => Answer {
+                number: 0,
+                place: 0,
+                electronic: moves.electronic,
+                swaps: moves.swaps,
+            },
+            Err(refusal) => Answer {
+                number: refusal.number(),
+                place: refusal.place(),
+                electronic: 0,
+                swaps: 0,
+            },
+        }
     }
 }
 
-// The answer of so many moves.
-pub fn accepted(electronic: usize, swaps: usize) -> Answer
-    ensures { result ≡ accepted_of electronic swaps }
+pub fn check_side(side: usize) -> Result<(), Refusal>
+    ensures { Judged (side_case side ∷ []) result }
 {
-    Answer {
-        number: 0,
-        place: 0,
-        electronic: electronic,
-        swaps: swaps,
+    if is_side(side) {
+        Ok(())
+    } else {
+        Err(Refusal::Side)
     }
 }
 
-pub fn case_of(applies: bool, number: usize, place: usize) -> Case
-    ensures { result ≡ case_of applies number place }
+// The length of a lane, where the side is one.
+pub fn check_lane(side: usize, length: usize) -> Result<(), Refusal>
+    ensures { Judged (lane_case side length ∷ []) result }
 {
-    Case {
-        applies: applies,
-        number: number,
-        place: place,
+    if is_cells(side, length) {
+        Ok(())
+    } else {
+        Err(Refusal::Lane)
     }
 }
 
-// The answer of a case that applies, and else the other.
-pub fn refusing(case: Case, otherwise: Answer) -> Answer
-    ensures { result ≡ refusing_of case otherwise }
-{
-    let refusal = refused(case.number, case.place);
-    if case.applies { refusal } else { otherwise }
-}
-
-pub fn side_case(side: usize) -> Case
-    ensures { result ≡ side_case side }
-{
-    case_of(!is_side(side), 1, 0)
-}
-
-pub fn lane_case(side: usize, length: usize) -> Case
-    ensures { result ≡ lane_case side length }
-{
-    case_of(!is_cells(side, length), 2, 0)
-}
-
-pub fn cell_case(side: usize, cell: usize) -> Case
-    ensures { result ≡ cell_case side cell }
-{
-    case_of(!is_cell(side, cell), 4, 0)
-}
-
-// The list has a move that a log of this length does not reach.
-fn is_too_short(runs: [Run; 9], length: usize) -> bool
-    ensures { result ≡ nat_lt length (length_of (moves runs)) }
+// A log is too short where the list has a move that it does not reach.
+pub fn check_log(runs: [Run; 9], length: usize) -> Result<(), Refusal>
+    ensures { Judged (log_case runs length ∷ []) result }
 {
     match step_at(runs, length) {
-        Found::Step(_) => true,
-        Found::Past => false,
+        Some(_) => Err(Refusal::Log),
+        None => Ok(()),
     }
 }
 
-pub fn log_case(runs: [Run; 9], length: usize) -> Case
-    ensures { result ≡ log_case runs length }
+pub fn check_cell(side: usize, cell: usize) -> Result<(), Refusal>
+    ensures { Judged (cell_case side cell ∷ []) result }
 {
-    case_of(is_too_short(runs, length), 3, 0)
+    if is_cell(side, cell) {
+        Ok(())
+    } else {
+        Err(Refusal::Argument)
+    }
 }
 
-// The answer of a list that was made, with its counts.
-pub fn accepted_by(runs: [Run; 9]) -> Answer
-    ensures { result ≡ accepted_by runs }
+// The moves of a list, counted.
+pub fn moves_of(runs: [Run; 9]) -> Moves
+    ensures { answer_of (Ok result) ≡ accepted_by runs }
 {
     let mut electronic: usize = 0;
     let mut swaps: usize = 0;
-    let mut q: usize = 0;
-    while q < 9 {
-        let run = runs[q];
-        let step = run.step;
-        let times = run.times;
-        electronic = std::num::wrapping_add_usize(electronic, electronic_in(step, times));
-        swaps = std::num::wrapping_add_usize(swaps, swaps_in(step, times));
-        q += 1;
+    for run in &runs {
+        electronic = electronic.wrapping_add(electronic_in(run.step, run.times));
+        swaps = swaps.wrapping_add(swaps_in(run.step, run.times));
     }
-    accepted(electronic, swaps)
-}
-
-// The answer of the cases of the side and of a lane, and else the other.
-pub fn refusing_lane(side: usize, length: usize, otherwise: Answer) -> Answer
-    ensures { result ≡ verdict (side_case side ∷ lane_case side length ∷ []) otherwise }
-{
-    refusing(
-        side_case(side),
-        refusing(lane_case(side, length), otherwise),
-    )
+    Moves { electronic, swaps }
 }

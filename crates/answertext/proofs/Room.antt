@@ -1,10 +1,9 @@
 -- How long an answer can be.
-use Rattle.std.proofs.Common.{◌≡◌, ℕ, zero, suc, ◌+◌, ◌*◌, ◌≤◌, List, length, get_or, refl, suc-mul, arith, length-append}
+use Rattle.std.proofs.Common.{◌≡◌, ℕ, zero, suc, ◌+◌, ◌*◌, ◌≤◌, List, Option, Some, None, length, get_or, refl, suc-mul, arith, length-append}
 use Rattle.array.specs.declared.moves.Way.TheVariants.{Right, Left, Up, Down}
 use Rattle.array.specs.declared.moves.Move.{Move}
 use Rattle.array.specs.declared.moves.Move.TheVariants.{Swap, Electronic}
-use Rattle.array.specs.declared.moves.Logged.{Logged}
-use Rattle.array.specs.declared.moves.Logged.TheVariants.{Line, NoMove}
+use Rattle.array.specs.declared.moves.LogLine.{LogLine}
 use Rattle.printing.specs.Printed.{line, rows}
 use Rattle.printing.proofs.Digits.{decimal_short}
 use Rattle.answertext.specs.declared.Totals.{Totals}
@@ -19,10 +18,10 @@ step_short (Electronic Left) = omega arith
 step_short (Electronic Up) = omega arith
 step_short (Electronic Down) = omega arith
 
-move_short : (n : ℕ) (l : Logged) → length (move_line n l) ≤ 50
+move_short : (n : ℕ) (l : Option LogLine) → length (move_line n l) ≤ 50
 unfolding move_line line
-move_short n (Line l) = simp length-append (omega (arith, decimal_short n, decimal_short l.moved, step_short l.step))
-move_short n NoMove = omega arith
+move_short n (Some l) = simp length-append (omega (arith, decimal_short n, decimal_short l.moved, step_short l.step))
+move_short n None = omega arith
 
 all_short : (t : Totals) → length (all_line t) ≤ 67
 unfolding all_line line
@@ -37,7 +36,7 @@ unfolding rows
 rows_short f m zero h = omega arith
 rows_short f m (suc n) h = rw (length-append, suc-mul) (omega (arith, rows_short f m n h, h n))
 
-move_row_short : (l : ℕ → Logged) (i : ℕ) → length (move_row l i) ≤ 50
+move_row_short : (l : ℕ → Option LogLine) (i : ℕ) → length (move_row l i) ≤ 50
 unfolding move_row
 move_row_short l i = move_short (suc i) (l i)
 
@@ -49,7 +48,7 @@ header_long : length header ≡ 20
 unfolding header line
 header_long = refl
 
-log_short : (l : ℕ → Logged) (n : ℕ) (words : List ℕ) → length (log_text l n words) ≤ 20 + n * 50 + 67 + length words * 42
+log_short : (l : ℕ → Option LogLine) (n : ℕ) (words : List ℕ) → length (log_text l n words) ≤ 20 + n * 50 + 67 + length words * 42
 unfolding log_text
 log_short l n words =
     simp length-append (omega (arith, header_long, rows_short (move_row l) 50 n (move_row_short l), all_short (totals_of l n), rows_short (record_row words) 42 (length words) (record_row_short words)))

@@ -1,11 +1,11 @@
 -- The moves, their codes in a log, and runs of moves.
-use Rattle.std.specs.Prelude.{ℕ, [], ◌∷◌, cond, ltb, get_or}
+use Rattle.std.specs.Prelude.{ℕ, ◌≡◌, [], ◌∷◌, Option, Result, slice_get, option_map, ok_or}
 use Rattle.array.specs.declared.moves.Way.{Way}
 use Rattle.array.specs.declared.moves.Way.TheVariants.{Right, Left, Up, Down}
 use Rattle.array.specs.declared.moves.Move.{Move}
 use Rattle.array.specs.declared.moves.Move.TheVariants.{Swap, Electronic}
-use Rattle.array.specs.declared.moves.Logged.{Logged}
-use Rattle.array.specs.declared.moves.Logged.TheVariants.{Line, NoMove}
+use Rattle.array.specs.declared.moves.LogLine.{LogLine}
+use Rattle.array.specs.declared.moves.UnknownCode.{UnknownCode}
 
 -- the code of a move in a log
 abbrev pub code_of : Move → ℕ
@@ -42,7 +42,14 @@ up = Electronic Up
 abbrev pub down : Move
 down = Electronic Down
 
+-- the move that a code says: there are five
+abbrev pub move_of : ℕ → Option Move
+move_of code = slice_get (swap ∷ right ∷ left ∷ up ∷ down ∷ []) code
+
+-- a code is read as its move, or else it is handed back
+abbrev pub Decoded : ℕ → Result Move UnknownCode → Type 0
+Decoded code r = r ≡ ok_or (move_of code) (record { 0 = code })
+
 -- what a code and a moved count say, as a log line
-abbrev pub logged_of : ℕ → ℕ → Logged
-logged_of code moved =
-    cond (ltb code 5) (Line (record { step = get_or (swap ∷ right ∷ left ∷ up ∷ down ∷ []) code swap; moved = moved })) NoMove
+abbrev pub logged_of : ℕ → ℕ → Option LogLine
+logged_of code moved = option_map (λ m. record { step = m; moved = moved }) (move_of code)

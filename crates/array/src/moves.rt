@@ -1,8 +1,8 @@
 // The moves that the array can make, and their codes in a log.
 ghost use Rattle.std.specs.Prelude.{◌≡◌};
-ghost use Rattle.array.specs.Moves.{code_of, logged_of, opposite as opposite_of};
+ghost use Rattle.array.specs.Moves.{code_of, Decoded, logged_of, opposite as opposite_of};
 
-#[derive(Clone, Copy)]
+#[derive(Clone, Copy, Debug, PartialEq, Eq)]
 pub enum Way {
     Right,
     Left,
@@ -10,7 +10,7 @@ pub enum Way {
     Down,
 }
 
-#[derive(Clone, Copy)]
+#[derive(Clone, Copy, Debug, PartialEq, Eq)]
 pub enum Move {
     Swap,
     Electronic(Way),
@@ -27,52 +27,53 @@ pub const UP: Move = Move::Electronic(Way::Up);
 pub const DOWN: Move = Move::Electronic(Way::Down);
 
 // A line of a log: the move, and how many records changed cell in it.
-#[derive(Clone, Copy)]
+#[derive(Clone, Copy, Debug, PartialEq, Eq)]
 pub struct LogLine {
     pub step: Move,
     pub moved: u16,
 }
 
-// What a code and a count of a log say.
-#[derive(Clone, Copy)]
-pub enum Logged {
-    Line(LogLine),
-    NoMove,
-}
+impl From<Move> for u8 {
+    ghost from_gives = { λ step r. r ≡ code_of step };
 
-fn way_code(way: Way) -> u8
-    ensures { result ≡ code_of (Move.Electronic way) }
-{
-    match way {
-        Way::Right => 1,
-        Way::Left => 2,
-        Way::Up => 3,
-        Way::Down => 4,
+    fn from(step: Move) -> u8 {
+        match step {
+            Move::Swap => 0,
+            Move::Electronic(Way::Right) => 1,
+            Move::Electronic(Way::Left) => 2,
+            Move::Electronic(Way::Up) => 3,
+            Move::Electronic(Way::Down) => 4,
+        }
     }
 }
 
-pub fn code(step: Move) -> u8
-    ensures { result ≡ code_of step }
-{
-    match step {
-        Move::Swap => 0,
-        Move::Electronic(way) => way_code(way),
+// A code that no move has.
+#[derive(Clone, Copy, Debug, PartialEq, Eq)]
+pub struct UnknownCode(pub u8);
+
+impl TryFrom<u8> for Move {
+    type Error = UnknownCode;
+
+    ghost try_from_gives = { Decoded };
+
+    fn try_from(code: u8) -> Result<Move, UnknownCode> {
+        match code {
+            0 => Ok(SWAP),
+            1 => Ok(RIGHT),
+            2 => Ok(LEFT),
+            3 => Ok(UP),
+            4 => Ok(DOWN),
+            _ => Err(UnknownCode(code)),
+        }
     }
 }
 
 // The log line of a code and a moved count.
-pub fn log_line(code: u8, moved: u16) -> Logged
+pub fn log_line(code: u8, moved: u16) -> Option<LogLine>
     ensures { result ≡ logged_of code moved }
 {
-    if 5 <= code {
-        return Logged::NoMove;
-    }
-    let steps = [SWAP, RIGHT, LEFT, UP, DOWN];
-    let step = steps[code as usize];
-    Logged::Line(LogLine {
-        step: step,
-        moved: moved,
-    })
+    let step = Move::try_from(code).ok()?;
+    Some(LogLine { step, moved })
 }
 
 pub fn opposite(way: Way) -> Way

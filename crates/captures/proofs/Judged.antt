@@ -1,4 +1,5 @@
 -- A starting table and a capture judged: what is refused, and what the walk's answer is where nothing is.
+use Rattle.std.specs.Prelude.{Result, Ok, Err, Option, Some, None}
 use Prim.Native.Nat.{ℕ, suc, ◌≤◌, ◌<◌}
 use mathlib.Core.Path.{◌≡◌, refl, sym, ap, ◌∙◌}
 use mathlib.Core.Bool.{Bool, true, false, cond}
@@ -10,10 +11,10 @@ use Rattle.laws.proofs.Searching.{none_found}
 use Rattle.texts.specs.Lines.{TextLine, ended, unended, lines_of}
 use Rattle.texts.specs.Numbers.{numbers_in}
 use Rattle.texts.specs.declared.read.Numbers.{Numbers}
-use Rattle.texts.specs.declared.read.Numbers.TheVariants.{Two, Four, Other}
+use Rattle.texts.specs.declared.read.Numbers.TheVariants.{Two, Four}
 use Rattle.array.specs.Cells.{cells}
 use Rattle.answers.specs.declared.Answer.{Answer}
-use Rattle.answers.specs.declared.Case.{Case}
+use Rattle.answers.specs.Answers.{Case}
 use Rattle.answers.specs.Answers.{accepted, verdict, lane_case, without_logs}
 use Rattle.answers.proofs.Verdicts.{NoneApplies, none_refuses, at_once, later, side_built, lane_whole}
 use Rattle.lists.specs.declared.Trip.TheVariants.{Concentrate}
@@ -22,10 +23,14 @@ use Rattle.refusals.specs.declared.Sizes.{Sizes}
 use Rattle.refusals.specs.Cases.{bad_aim, full_cases}
 use Rattle.captures.specs.declared.Held.{Held}
 use Rattle.captures.specs.declared.state.Start.{Start}
+use Rattle.captures.specs.Told.{Told, told, untold}
 use Rattle.captures.specs.declared.Replayed.{Replayed}
-use Rattle.captures.specs.declared.Replayed.TheVariants.{Refused}
+use Rattle.captures.specs.declared.Replayed.TheVariants.{Agrees, Differs, Early}
+use Rattle.answers.specs.declared.Refusal.{Refusal}
+use Rattle.answers.specs.declared.Refusal.TheVariants.{Side, Lane, Log, Argument, Mark, Aim, Cut, Job, Capture}
+use Rattle.captures.specs.Told.{is_refused}
 use Rattle.captures.specs.Captures.{Captured, CaptureVerdict, is_capture, no_capture, in_turn, with_move, capture_from, capture_verdict}
-use Rattle.captures.specs.Replays.{same_records, compared, capture_case, start_cases, replay_cases, replay_by, replay_of}
+use Rattle.captures.specs.Replays.{same_records, compared, capture_case, start_cases, replay_cases, replay_by, replay_told}
 use Rattle.captures.specs.Inside.{Loaded, Startable, Started, no_tally, resolved, resolved_from}
 use Rattle.captures.proofs.Starting.{few_cells}
 
@@ -49,7 +54,7 @@ module _ (s : ℕ) (words marks aims : List ℕ) {judged : Answer} (e : judged �
   start = e ∙ same_cases s words marks aims (accepted 0 0)
 
   -- refused by its lanes, marks or aims
-  pub start-refused : (capture : List ℕ) → (judged.number ≡ 0 → ⊥) → Refused judged.number judged.place ≡ replay_of s words marks aims capture
+  pub start-refused : (capture : List ℕ) → (judged.number ≡ 0 → ⊥) → is_refused judged.number judged.place ≡ replay_told s words marks aims capture
   unfolding replay_by
   start-refused capture d =
       let v = capture_verdict s capture in
@@ -80,7 +85,7 @@ module _ (s : ℕ) (words marks aims : List ℕ) {judged : Answer} (e : judged �
         → r ≡ verdict (replay_cases s words marks aims v) (accepted 0 0)
     by_capture v f = later (start_cases s words marks aims) (capture_case v ∷ []) (accepted 0 0) (accepted 0 0) start refl z f
 
-    capture_refused : (k : ℕ) → Refused 10 k ≡ replay_by s words marks aims (no_capture k)
+    capture_refused : (k : ℕ) → is_refused 10 k ≡ replay_by s words marks aims (no_capture k)
     unfolding replay_by
     capture_refused k = rw (← by_capture (no_capture k) refl)
 
@@ -107,10 +112,10 @@ moveless s next k (ended line ∷ ls) = by (numbers_in line) refl
     turn true code v = behind code v
     turn false code v = tt
 
-    by : (x : Numbers) → numbers_in line ≡ x → Moveless (capture_from s 0 next k (ended line ∷ ls))
-    by (Two number code) e = rw (e, capture_from) (turn (in_turn s 0 number) code (capture_from s number 0 (suc k) ls))
-    by (Four cell slot word aim) e = rw (e, capture_from) tt
-    by Other e = rw (e, capture_from) tt
+    by : (x : Option Numbers) → numbers_in line ≡ x → Moveless (capture_from s 0 next k (ended line ∷ ls))
+    by (Some (Two number code)) e = rw (e, capture_from) (turn (in_turn s 0 number) code (capture_from s number 0 (suc k) ls))
+    by (Some (Four cell slot word aim)) e = rw (e, capture_from) tt
+    by None e = rw (e, capture_from) tt
 
 -- a starting table has room in arrays of 81
 pub start_room : {s : ℕ} {words marks aims : List ℕ} → Startable s words marks aims
@@ -141,12 +146,12 @@ module _ {s : ℕ} {words marks aims : List ℕ} {b : Start} (z : Startable s wo
 -- the answer of a capture
 module _ (s : ℕ) (words marks aims capture : List ℕ) {judged : Answer} (e : judged ≡ verdict (judged_cases s words marks aims) (accepted 0 0))
     (z : judged.number ≡ 0) where
-  pub too_long : 65536 < length capture → Refused 10 0 ≡ replay_of s words marks aims capture
+  pub too_long : 65536 < length capture → is_refused 10 0 ≡ replay_told s words marks aims capture
   unfolding capture_verdict
   too_long h = rw (lt-ltb 65536 (length capture) h) (capture_refused s words marks aims e z 0)
 
   module _ (short : length capture ≤ 65536) where
-    pub side_above : 3 < s → Refused 10 0 ≡ replay_of s words marks aims capture
+    pub side_above : 3 < s → is_refused 10 0 ≡ replay_told s words marks aims capture
     unfolding capture_verdict
     side_above h = rw (le-ltb 65536 (length capture) short, lt-ltb 3 s h) (capture_refused s words marks aims e z 0)
 
@@ -155,10 +160,28 @@ module _ (s : ℕ) (words marks aims capture : List ℕ) {judged : Answer} (e : 
     begun (is_capture hs ms) n = rw n (capture_compared s words marks aims e z [] ms)
     begun (no_capture k) n = capture_refused s words marks aims e z k
 
-    pub walked : (b : Start) (r : Replayed) → s ≤ 3 → Loaded words marks aims b
-        → r ≡ resolved_from s b no_tally (capture_from s 0 0 1 (lines_of capture)) → r ≡ replay_of s words marks aims capture
+    pub walked : (b : Start) (r : Told) → s ≤ 3 → Loaded words marks aims b
+        → r ≡ resolved_from s b no_tally (capture_from s 0 0 1 (lines_of capture)) → r ≡ replay_told s words marks aims capture
     unfolding capture_verdict
     walked b r h l w =
         let v = capture_from s 0 0 1 (lines_of capture) in
         rw (le-ltb 65536 (length capture) short, le-ltb 3 s h)
         (w ∙ resolved-here (start_known s words marks aims e z h) l v ∙ begun v (moveless s 0 1 (lines_of capture)))
+
+-- a replay is what it tells
+untold-told : (r : Result Replayed Refusal) → untold (told r) ≡ r
+untold-told (Ok Agrees) = refl
+untold-told (Ok (Differs m)) = refl
+untold-told (Ok (Early m)) = refl
+untold-told (Err Side) = refl
+untold-told (Err Lane) = refl
+untold-told (Err Log) = refl
+untold-told (Err Argument) = refl
+untold-told (Err (Mark i)) = refl
+untold-told (Err (Aim i)) = refl
+untold-told (Err Cut) = refl
+untold-told (Err (Job l)) = refl
+untold-told (Err (Capture l)) = refl
+
+pub told_so : (r : Result Replayed Refusal) {t : Told} → told r ≡ t → r ≡ untold t
+told_so r e = sym (untold-told r) ∙ ap untold e

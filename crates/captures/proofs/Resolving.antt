@@ -1,22 +1,23 @@
 -- A tally says all that is needed of the lines before it: behind a line, what the lines that follow come to is what they came to before it.
-use Prim.Native.Nat.{ℕ, zero, suc, ◌<◌}
+use Rattle.std.specs.Prelude.{Option, Some, None}
+use Rattle.std.specs.Option.{option_or}
+use Prim.Native.Nat.{ℕ, zero, suc}
 use mathlib.Core.Path.{◌≡◌, refl, sym, ap, ◌∙◌}
 use mathlib.Core.Bool.{Bool, true, false, cond, ◌&&◌}
 use mathlib.Core.Logic.{⊎_elim}
 use mathlib.Core.List.{List, [], ◌∷◌}
 use native.Mathlib.Omega.{arith}
-use borrow.Author.Tests.{eq-eqb, ne_eqb, leb-false, le-leb, lt-leb}
+use borrow.Author.Tests.{ne_eqb, le-leb, lt-leb}
 use lib.Dec.{eqb, leb}
 use lib.ListN.{length, drop}
 use Rattle.laws.proofs.Deciding.{apart}
 use Rattle.captures.specs.declared.Held.{Held}
-use Rattle.captures.specs.declared.state.Records.{Records}
 use Rattle.captures.specs.declared.walk.Tally.{Tally}
-use Rattle.captures.specs.declared.Replayed.{Replayed}
-use Rattle.captures.specs.declared.Replayed.TheVariants.{Differs}
+use Rattle.captures.specs.Told.{Told}
+use Rattle.captures.specs.Told.{differs_at}
 use Rattle.captures.specs.Captures.{CaptureVerdict, is_capture, no_capture, with_move, with_record}
 use Rattle.captures.specs.Replays.{code_at, same_held, same_records, records_after, compared}
-use Rattle.captures.specs.Inside.{list_in, Listing, expected_at, earlier, behind_move, is_first, behind_record, end_of, resolved}
+use Rattle.captures.specs.Inside.{expected_at, unless, following, behind_move, is_first, behind_record, end_of, resolved}
 
 -- no record is left exactly where as many were seen as there are
 none_left : (l : List Held) (k : ℕ) → same_records [] (drop k l) ≡ leb (length l) k
@@ -44,73 +45,51 @@ drop_one [] (suc k) = refl
 drop_one (x ∷ l) zero = refl
 drop_one (x ∷ l) (suc k) = drop_one l k
 
--- what follows a difference, or nothing
-abbrev following : Replayed → ℕ → Replayed
-following x d = cond (eqb d 0) x (Differs d)
-
 -- one thing more that may differ, at a move
-one_thing : (d made : ℕ) (f : Bool) (x : Replayed) → (f ≡ false → made ≡ 0 → ⊥)
-    → following (cond f x (Differs made)) d ≡ following x (earlier d (cond f 0 made))
-one_thing d made f x p = go f (eqb d 0) refl refl
-  where
-    go : (g y : Bool) → f ≡ g → eqb d 0 ≡ y → following (cond f x (Differs made)) d ≡ following x (earlier d (cond f 0 made))
-    go true true e i = rw (e, i)
-    go true false e i = rw (e, i, i)
-    go false true e i = rw (e, i, ne_eqb made 0 (p e))
-    go false false e i = rw (e, i, i)
+one_thing : (d : Option ℕ) (made : ℕ) (f : Bool) (x : Told) → following (cond f x (differs_at made)) d ≡ following x (option_or d (unless f made))
+one_thing None made true x = refl
+one_thing None made false x = refl
+one_thing (Some d) made f x = refl
 
-earlier_twice : (d e f : ℕ) → earlier (earlier d e) f ≡ earlier d (earlier e f)
-earlier_twice d e f = go (eqb d 0) refl
-  where
-    go : (y : Bool) → eqb d 0 ≡ y → earlier (earlier d e) f ≡ earlier d (earlier e f)
-    go true i = rw i
-    go false i = rw (i, i)
-
-and_cond : (u f : Bool) (x y : Replayed) → cond (u && f) x y ≡ cond u (cond f x y) y
+and_cond : (u f : Bool) (x y : Told) → cond (u && f) x y ≡ cond u (cond f x y) y
 and_cond true f x y = refl
 and_cond false f x y = refl
 
 -- records are the same where the first is, and those behind it are
-same_first : (h : Held) (hs l : List Held) (x y : Replayed) → cond (same_records (h ∷ hs) l) x y ≡ cond (is_first h l) (cond (same_records hs (behind l)) x y) y
+same_first : (h : Held) (hs l : List Held) (x y : Told) → cond (same_records (h ∷ hs) l) x y ≡ cond (is_first h l) (cond (same_records hs (behind l)) x y) y
 unfolding same_records behind
 same_first h hs [] x y = refl
 same_first h hs (q ∷ l) x y = and_cond (same_held h q) (same_records hs l) x y
 
-module _ (s : ℕ) (w m a : List ℕ) (t : Tally) (r : Records) (z : Listing (expected_at s w m a t.made) r) where
+module _ (s : ℕ) (w m a : List ℕ) (t : Tally) (r : List Held) (z : r ≡ expected_at s w m a t.made) where
   abbrev L : List Held
   L = expected_at s w m a t.made
 
-  left : same_records [] (drop t.seen L) ≡ leb r.count t.seen
-  left = none_left L t.seen ∙ ap (λ (n : ℕ). leb n t.seen) (sym z.size)
+  left : same_records [] (drop t.seen L) ≡ leb (length r) t.seen
+  left = none_left L t.seen ∙ ap (λ (l : List Held). leb (length l) t.seen) (sym z)
 
-  -- before the first move nothing is missing
-  some_made : leb r.count t.seen ≡ false → t.made ≡ 0 → ⊥
-  some_made e h =
-      let none : L ≡ [] = rw (eq-eqb t.made 0 h) in
-      omega (arith, z.size ∙ ap length none, leb-false r.count t.seen e)
-
-  pub end-resolved : resolved s w m a t (is_capture [] []) ≡ end_of s t r.count
+  pub end-resolved : resolved s w m a t (is_capture [] []) ≡ end_of s t (length r)
   unfolding resolved compared
   end-resolved = rw left
 
-  pub move_resolved : (c : ℕ) (v : CaptureVerdict) → resolved s w m a t (with_move c v) ≡ resolved s w m a (behind_move s t r.count (suc t.made) c) v
+  pub move_resolved : (c : ℕ) (v : CaptureVerdict) → resolved s w m a t (with_move c v) ≡ resolved s w m a (behind_move s t (length r) (suc t.made) c) v
   unfolding resolved with_move compared
   move_resolved c (no_capture k) = refl
   move_resolved c (is_capture hs ms) =
       let n = suc t.made in
-      let none = leb r.count t.seen in
+      let none = leb (length r) t.seen in
       let u = eqb c (code_at s n) in
-      let x = cond (same_records hs (records_after s w m a n)) (compared s w m a n ms) (Differs n) in
+      let x = cond (same_records hs (records_after s w m a n)) (compared s w m a n ms) (differs_at n) in
       let new : eqb n 0 ≡ false = ne_eqb n 0 (omega arith) in
-      rw (left, new, and_cond, ← earlier_twice)
-      (one_thing t.differs t.made none (cond u x (Differs n)) some_made ∙ one_thing (earlier t.differs (cond none 0 t.made)) n u x (λ _. omega arith))
+      rw (left, new, and_cond)
+      (one_thing t.differs t.made none (cond u x (differs_at n)) ∙ one_thing (option_or t.differs (unless none t.made)) n u x)
 
-  pub record_resolved : (h : Held) (v : CaptureVerdict) → 0 < t.made
-      → resolved s w m a t (with_record h v) ≡ resolved s w m a (behind_record t (list_in r) h) v
+  pub record_resolved : (h : Held) (v : CaptureVerdict)
+      → resolved s w m a t (with_record h v) ≡ resolved s w m a (behind_record t r h) v
   unfolding resolved with_record
-  record_resolved h (no_capture k) p = refl
-  record_resolved h (is_capture hs ms) p =
+  record_resolved h (no_capture k) = refl
+  record_resolved h (is_capture hs ms) =
       let l = drop t.seen L in
-      let x = cond (same_records hs (behind l)) (compared s w m a t.made ms) (Differs t.made) in
-      rw (z.list, drop_one L t.seen, same_first)
-      (one_thing t.differs t.made (is_first h l) x (λ _ e. omega (arith, p, e)))
+      let x = cond (same_records hs (behind l)) (compared s w m a t.made ms) (differs_at t.made) in
+      rw (z, drop_one L t.seen, same_first)
+      (one_thing t.differs t.made (is_first h l) x)

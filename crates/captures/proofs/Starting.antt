@@ -21,10 +21,9 @@ use Rattle.refusals.proofs.Accepting.{cut_accepted}
 use Rattle.refusals.proofs.Verdicting.{Fitting}
 use Rattle.records.specs.Entries.{sizes_of, Stood}
 use Rattle.captures.specs.declared.Held.{Held}
-use Rattle.captures.specs.declared.state.Records.{Records}
 use Rattle.captures.specs.declared.state.Start.{Start}
 use Rattle.captures.specs.Replays.{held_in, held_below, state_after, records_after}
-use Rattle.captures.specs.Inside.{Listing, Startable, Started, records_from}
+use Rattle.captures.specs.Inside.{Startable, Started, records_from}
 
 -- a board of side 3 has 81 cells
 pub few_cells : (s : ℕ) → s ≤ 3 → cells s ≤ 81
@@ -61,8 +60,8 @@ board_lent s n made b x y v z e h i j k =
       ),
     )
 
-pub listed_from : (s n made : ℕ) (b : Start) {t : Records} → n ≡ cells s
-    → Listing (records_after s (take n b.words) (take n b.marks) (take n b.aims) made) t → Listing (records_from s b made) t
+pub listed_from : (s n made : ℕ) (b : Start) {t : List Held} → n ≡ cells s
+    → t ≡ records_after s (take n b.words) (take n b.marks) (take n b.aims) made → t ≡ records_from s b made
 listed_from s n made b e l = rw e at l
 
 -- the entries below i of a lane stand in an array of 81
@@ -111,9 +110,9 @@ module _ {s made : ℕ} {w m a w₂ m₂ a₂ : List ℕ} (z : Startable s w m a
       let answer = accepted_by (first_runs made (runs_of Concentrate s)) in
       ap (λ (x : Answer). x.number) (e ∙ cut_accepted Concentrate s (sizes_of w w₂ m₂ a₂) m a fitting z.good answer made inside)
 
-  pub state_listed : {r : Answer} {T : ℕ → Cell} {K : Type 0} {t : Records} {k : ℕ}
+  pub state_listed : {r : Answer} {T : ℕ → Cell} {K : Type 0} {t : List Held} {k : ℕ}
       → Unlogged (cut_cases Concentrate s made (sizes_of w w₂ m₂ a₂) m a) (first_runs made (runs_of Concentrate s)) (Stood Concentrate s made w m a T) K r
-      → k ≡ cells s → Listing (held_below T k) t → Listing (records_after s w m a made) t
+      → k ≡ cells s → t ≡ held_below T k → t ≡ records_after s w m a made
   state_listed {T = T} c e l =
       let same : held_below T (cells s) ≡ records_after s w m a made = held_cong T _ (cells s) (c.lanes (taken c.answer)).shown in
       rw (e, same) at l

@@ -1,61 +1,36 @@
 -- What the small functions of a replay tell of a line, in the terms of the code.
-use Prim.Native.Nat.{ℕ, suc, ◌+◌, ◌-◌, ◌*◌, ◌≤◌, ◌<◌}
-use mathlib.Core.Path.{◌≡◌, sym, ap, ap₂, ◌∙◌}
+use Prim.Native.Nat.{ℕ, zero, suc, ◌+◌, ◌-◌, ◌*◌, ◌≤◌, ◌<◌}
+use mathlib.Core.Path.{◌≡◌, refl, sym, ap, ap₂, ◌∙◌}
+use mathlib.Core.List.{List, [], ◌∷◌}
 use mathlib.Core.Bool.{Bool, true, false, cond, ◌&&◌}
-use mathlib.Core.List.{List, []}
+use mathlib.Core.List.{[]}
 use native.Mathlib.Omega.{arith}
-use borrow.Author.Tests.{eq-eqb, ne_eqb, le-leb, lt-leb, lt-ltb, le-ltb, eqb-true, leb-true, ltb-true}
+use mathlib.Core.Logic.{⊎_elim}
+use Rattle.laws.proofs.Deciding.{apart}
+use borrow.Author.Tests.{eq-eqb, ne_eqb, le-leb, lt-leb, lt-ltb, le-ltb, eqb-true, eqb-false, leb-true, ltb-true}
 use mir.Syntax.{w64}
 use mir.Val.{Fits}
 use lib.Dec.{eqb, leb, ltb}
-use lib.ListN.{length, get_or, drop, length-take, drop_of_length-le, get_or-eq_default}
-use lib.Seq.{drop-cons, get_or-take}
+use lib.ListN.{length-map, drop}
+use lib.Seq.{drop-cons}
 use Rattle.laws.proofs.Bools.{both_left, both_right}
 use Rattle.array.specs.Cells.{is_side, cells}
-use Rattle.array.specs.Moves.{code_of}
-use Rattle.array.specs.declared.moves.Move.{Move}
 use Rattle.array.proofs.Board.{side_known}
-use Rattle.runs.specs.declared.Run.{Run}
-use Rattle.runs.specs.declared.Found.{Found}
-use Rattle.runs.specs.declared.Found.TheVariants.{Step, Past}
-use Rattle.runs.specs.Runs.{moves, codes, step_in}
-use Rattle.runs.proofs.Steps.{code_found, code_past}
-use Rattle.lists.specs.declared.Trip.TheVariants.{Concentrate}
-use Rattle.lists.specs.Lists.{total_moves, runs_of}
+use Rattle.runs.specs.Runs.{codes}
+use Rattle.lists.specs.Lists.{total_moves, concentrate_runs}
+use Rattle.lists.proofs.Counts.{concentrate_length}
+use Rattle.std.proofs.lemmas.Option.{slice_get_within, get_or_from_slice_get, none-some, slice_get-get_or}
 use Rattle.captures.specs.declared.Held.{Held}
-use Rattle.captures.specs.declared.state.Records.{Records}
 use Rattle.captures.specs.declared.state.Start.{Start}
 use Rattle.captures.specs.declared.walk.Tally.{Tally}
-use Rattle.captures.specs.declared.walk.Next.{Next}
-use Rattle.captures.specs.declared.walk.Next.TheVariants.{On, Bad}
-use Rattle.captures.specs.declared.Replayed.TheVariants.{Agrees, Differs, Early}
+use Rattle.std.specs.Prelude.{Option, Some, None, not, slice_get}
+use Rattle.std.specs.Option.{option_or, option_eq}
+use Rattle.std.specs.Bool.{then_some}
+use Rattle.captures.specs.Told.{all_agree, differs_at, ends_early}
 use Rattle.captures.specs.Captures.{order_of, in_turn, in_place}
 use Rattle.captures.specs.Replays.{code_at, same_held}
-use Rattle.captures.specs.Inside.{list_in, Roomy, Listing, Small, records_from, expected_from, earlier, behind_move, is_first, behind_record, end_of}
+use Rattle.captures.specs.Inside.{Small, records_from, expected_from, code_in, unless, behind_move, is_first, behind_record, end_of}
 use Rattle.captures.proofs.Starting.{few_cells}
-
--- `earlier`
-pub first-none : (a b : ℕ) → a ≡ 0 → b ≡ earlier a b
-first-none a b e = rw (eq-eqb a 0 e)
-
-pub first_some : (a b : ℕ) → (a ≡ 0 → ⊥) → a ≡ earlier a b
-first_some a b e = rw (ne_eqb a 0 e)
-
--- `same_held`
-module _ (x y : Held) where
-  pub other_cell : (x.cell ≡ y.cell → ⊥) → false ≡ same_held x y
-  other_cell e = rw (ne_eqb x.cell y.cell e)
-
-  module _ (c : x.cell ≡ y.cell) where
-    pub other_slot : (x.slot ≡ y.slot → ⊥) → false ≡ same_held x y
-    other_slot e = rw (eq-eqb x.cell y.cell c, ne_eqb x.slot y.slot e)
-
-    module _ (s : x.slot ≡ y.slot) where
-      pub other_word : (x.word ≡ y.word → ⊥) → false ≡ same_held x y
-      other_word e = rw (eq-eqb x.cell y.cell c, eq-eqb x.slot y.slot s, ne_eqb x.word y.word e)
-
-      pub by_aim : x.word ≡ y.word → eqb x.aim y.aim ≡ same_held x y
-      by_aim e = rw (eq-eqb x.cell y.cell c, eq-eqb x.slot y.slot s, eq-eqb x.word y.word e)
 
 -- `in_turn`
 pub not_next : (s made number : ℕ) → (number ≡ made + 1 → ⊥) → false ≡ in_turn s made number
@@ -118,41 +93,62 @@ place_known s made next h e =
     )
 
 -- `is_first`
-pub none_first : (h : Held) (r : Records) (seen : ℕ) → r.count ≤ seen → false ≡ is_first h (drop seen (list_in r))
-none_first h r seen e =
-    let n : drop seen (list_in r) ≡ [] = drop_of_length-le (list_in r) {i = seen} (omega (arith, e, length-take r.count r.list)) in
-    rw n
+pub none_first : (h : Held) (r : List Held) (seen : ℕ) → slice_get r seen ≡ None → false ≡ is_first h (drop seen r)
+none_first h [] zero e = refl
+none_first h [] (suc k) e = refl
+none_first h (x ∷ r) zero e = absurd (none-some x (sym e))
+none_first h (x ∷ r) (suc k) e = none_first h r k e
 
-pub next_first : (h : Held) (r : Records) (seen : ℕ) (d : Held) {t : Bool} → Roomy 162 r → seen < r.count → t ≡ same_held h (get_or r.list seen d)
-    → t ≡ is_first h (drop seen (list_in r))
-next_first h r seen d z e f =
-    let l : seen < length (list_in r) = omega (arith, e, z.long, z.few, length-take r.count r.list) in
-    rw (drop-cons (list_in r) seen d l, get_or-take r.count r.list seen d e) f
+pub next_first : (h : Held) (r : List Held) (seen : ℕ) (x : Held) → slice_get r seen ≡ Some x → same_held h x ≡ is_first h (drop seen r)
+next_first h r seen x e =
+    let e' = get_or_from_slice_get r seen x x e in
+    rw (drop-cons r seen x (slice_get_within r seen x e), e')
 
--- `code_at`
-pub code_is : (s number : ℕ) (rs : List Run) (f : Found) (m : Move) → rs ≡ runs_of Concentrate s → f ≡ step_in (moves rs) (number - 1) → f ≡ Step m
-    → code_of m ≡ code_at s number
-code_is s number rs f m e g h =
-    sym (code_found rs (number - 1) m (sym g ∙ h)).1 ∙ ap (λ (l : List Run). get_or (codes l) (number - 1) 0) e
+-- a move in its turn is one of the list, which has its code
+code_there : (s made number : ℕ) → in_turn s made number ≡ true → code_in s number ≡ Some (code_at s number)
+code_there s made number h =
+    let turn = turn_known s made number h in
+    slice_get-get_or (codes (concentrate_runs s)) (number - 1) 0 (rw length-map (omega (arith, turn, concentrate_length s)))
 
-pub no_code : (s number : ℕ) (rs : List Run) (f : Found) → rs ≡ runs_of Concentrate s → f ≡ step_in (moves rs) (number - 1) → f ≡ Past
-    → 0 ≡ code_at s number
-no_code s number rs f e g h =
-    sym (get_or-eq_default (codes rs) 0 (code_past rs (number - 1) (sym g ∙ h))) ∙ ap (λ (l : List Run). get_or (codes l) (number - 1) 0) e
+-- a move that is named where something does not hold
+then_unless : (holds : Bool) (number : ℕ) → then_some (not holds) number ≡ unless holds number
+then_unless true number = refl
+then_unless false number = refl
+
+missing_unless : (count seen number : ℕ) → then_some (ltb seen count) number ≡ unless (leb count seen) number
+missing_unless count seen number =
+    ⊎_elim (λ h. rw (lt-ltb seen count h, lt-leb count seen h)) (λ h. rw (le-ltb seen count h, le-leb count seen h)) (apart seen count)
 
 -- `at_move` and `at_record`: a line that is bad, and one that is good
-pub bad_line : (t x : Bool) (y : Next) → t ≡ x → t ≡ false → Bad ≡ cond x y Bad
+pub bad_line : (t x : Bool) (y : Option Tally) → t ≡ x → t ≡ false → None ≡ cond x y None
 bad_line t x y e f = rw (sym e ∙ f)
 
-pub turned : (s count number code c missing other first d : ℕ) (t : Tally) (good : Bool) → good ≡ in_turn s t.made number → good ≡ true
-    → c ≡ code_at s number → missing ≡ cond (leb count t.seen) 0 t.made → other ≡ cond (eqb code c) 0 number
-    → first ≡ earlier missing other → d ≡ earlier t.differs first
-    → On (record { made = number; next = 0; seen = 0; differs = d }) ≡ cond (in_turn s t.made number) (On (behind_move s t count number code)) Bad
-turned s count number code c missing other first d t good g h e f o p q =
-    rw (sym g ∙ h) (ap (λ (x : ℕ). On (record { made = number; next = 0; seen = 0; differs = x })) all)
+same_code : (x y : ℕ) → eqb x y ≡ eqb y x
+same_code x y = go (eqb x y) refl
   where
-    all : d ≡ earlier t.differs (earlier (cond (leb count t.seen) 0 t.made) (cond (eqb code (code_at s number)) 0 number))
-    all = q ∙ ap (earlier t.differs) (p ∙ ap₂ earlier f (o ∙ ap (λ (x : ℕ). cond (eqb code x) 0 number) e))
+    go : (t : Bool) → eqb x y ≡ t → eqb x y ≡ eqb y x
+    go true e = e ∙ sym (eq-eqb y x (sym (eqb-true x y e)))
+    go false e = e ∙ sym (ne_eqb y x (λ h. eqb-false x y e (sym h)))
+
+-- a code that is not the list's is named
+other_unless : (s made number code : ℕ) → in_turn s made number ≡ true
+    → then_some (not (option_eq eqb (code_in s number) (Some code))) number ≡ unless (eqb code (code_at s number)) number
+other_unless s made number code h =
+    rw (code_there s made number h, same_code code (code_at s number)) (then_unless (eqb (code_at s number) code) number)
+
+pub turned : (s count number code : ℕ) (c missing other first d : Option ℕ) (ne : Bool) (t : Tally) (good : Bool) → good ≡ in_turn s t.made number
+    → good ≡ true → c ≡ code_in s number → missing ≡ then_some (ltb t.seen count) t.made
+    → ne ≡ not (option_eq eqb c (Some code)) → other ≡ then_some ne number
+    → first ≡ option_or t.differs missing → d ≡ option_or first other
+    → Some (record { made = number; next = 0; seen = 0; differs = d }) ≡ cond (in_turn s t.made number) (Some (behind_move s t count number code)) None
+turned s count number code c missing other first d ne t good g h e f v o p q =
+    rw (sym g ∙ h) (ap (λ (x : Option ℕ). Some (record { made = number; next = 0; seen = 0; differs = x })) all)
+  where
+    named : other ≡ unless (eqb code (code_at s number)) number
+    named = o ∙ ap (λ (x : Bool). then_some x number) (rw e at v) ∙ other_unless s t.made number code (sym g ∙ h)
+
+    all : d ≡ option_or (option_or t.differs (unless (leb count t.seen) t.made)) (unless (eqb code (code_at s number)) number)
+    all = q ∙ ap₂ option_or (p ∙ ap (option_or t.differs) (f ∙ missing_unless count t.seen t.made)) named
 
 -- a record that is in its place
 module _ (s n made next : ℕ) (h : Held) (good : Bool) (z : Small s n) (g : good ≡ in_place s made next h) (f : good ≡ true) where
@@ -162,44 +158,44 @@ module _ (s n made next : ℕ) (h : Held) (good : Bool) (z : Small s n) (g : goo
   pub placed_fits : (order : ℕ) → order ≡ order_of h → Fits w64 (order + 1)
   placed_fits order o = record { fits = omega (arith, o, placed_room) }
 
-pub placed : (s other d order : ℕ) (t : Tally) (r : Records) (h : Held) (good first : Bool) → good ≡ in_place s t.made t.next h → good ≡ true
-    → first ≡ is_first h (drop t.seen (list_in r)) → other ≡ cond first 0 t.made → d ≡ earlier t.differs other → order ≡ order_of h
-    → On (record { made = t.made; next = order + 1; seen = t.seen + 1; differs = d })
-    ≡ cond (in_place s t.made t.next h) (On (behind_record t (list_in r) h)) Bad
-placed s other d order t r h good first g f e v q o =
-    let numbers : On (record { made = t.made; next = order + 1; seen = t.seen + 1; differs = d })
-    ≡ On (record { made = t.made; next = suc (order_of h); seen = suc t.seen; differs = d })
-    = ap₂ (λ (x y : ℕ). On (record { made = t.made; next = x; seen = y; differs = d })) (omega (arith, o)) (omega arith) in
-    rw (sym g ∙ f) (numbers ∙ ap (λ (x : ℕ). On (record { made = t.made; next = suc (order_of h); seen = suc t.seen; differs = x })) all)
+pub placed : (s order : ℕ) (other d : Option ℕ) (t : Tally) (r : List Held) (h : Held) (good first : Bool) → good ≡ in_place s t.made t.next h → good ≡ true
+    → first ≡ is_first h (drop t.seen r) → other ≡ then_some (not first) t.made → d ≡ option_or t.differs other → order ≡ order_of h
+    → Some (record { made = t.made; next = order + 1; seen = t.seen + 1; differs = d })
+    ≡ cond (in_place s t.made t.next h) (Some (behind_record t r h)) None
+placed s order other d t r h good first g f e v q o =
+    let numbers : Some (record { made = t.made; next = order + 1; seen = t.seen + 1; differs = d })
+    ≡ Some (record { made = t.made; next = suc (order_of h); seen = suc t.seen; differs = d })
+    = ap₂ (λ (x y : ℕ). Some (record { made = t.made; next = x; seen = y; differs = d })) (omega (arith, o)) (omega arith) in
+    rw (sym g ∙ f) (numbers ∙ ap (λ (x : Option ℕ). Some (record { made = t.made; next = suc (order_of h); seen = suc t.seen; differs = x })) all)
   where
-    all : d ≡ earlier t.differs (cond (is_first h (drop t.seen (list_in r))) 0 t.made)
-    all = q ∙ ap (earlier t.differs) (v ∙ ap (λ (x : Bool). cond x 0 t.made) e)
+    all : d ≡ option_or t.differs (unless (is_first h (drop t.seen r)) t.made)
+    all = q ∙ ap (option_or t.differs) (v ∙ then_unless first t.made ∙ ap (λ (x : Bool). unless x t.made) e)
 
 -- `expected`
-pub expected-same : (s : ℕ) (b : Start) (made now : ℕ) {r : Records} → made ≡ now → Listing (expected_from s b made) r → Listing (expected_from s b now) r
+pub expected-same : (s : ℕ) (b : Start) (made now : ℕ) {r : List Held} → made ≡ now → r ≡ expected_from s b made → r ≡ expected_from s b now
 expected-same s b made now e l = rw e at l
 
-pub expected-new : (s : ℕ) (b : Start) (made now : ℕ) {r : Records} → (made ≡ now → ⊥) → made ≤ now → Listing (records_from s b now) r
-    → Listing (expected_from s b now) r
+pub expected-new : (s : ℕ) (b : Start) (made now : ℕ) {r : List Held} → (made ≡ now → ⊥) → made ≤ now → r ≡ records_from s b now
+    → r ≡ expected_from s b now
 expected-new s b made now d h l =
     let p : now ≡ 0 → ⊥ = λ e. d (omega (arith, e)) in
     rw (ne_eqb now 0 p) l
 
 -- `ended`
 module _ (s : ℕ) (t : Tally) (count : ℕ) where
-  pub end_differs : (t.differs ≡ 0 → ⊥) → Differs t.differs ≡ end_of s t count
-  end_differs e = rw (ne_eqb t.differs 0 e)
+  pub end_differs : (d : ℕ) → t.differs ≡ Some d → differs_at d ≡ end_of s t count
+  end_differs d e = rw e
 
-  module _ (d : t.differs ≡ 0) where
-    pub end_missing : t.seen < count → Differs t.made ≡ end_of s t count
-    end_missing e = rw (eq-eqb t.differs 0 d, lt-leb count t.seen e)
+  module _ (d : t.differs ≡ None) where
+    pub end_missing : t.seen < count → differs_at t.made ≡ end_of s t count
+    end_missing e = rw (d, lt-leb count t.seen e)
 
     module _ (l : count ≤ t.seen) (side : is_side s ≡ true) (total : ℕ) (is : total ≡ cond (is_side s) (total_moves s) 0) where
       whole : total ≡ total_moves s
       whole = rw side at is
 
-      pub end_agrees : t.made ≡ total → Agrees ≡ end_of s t count
-      end_agrees e = rw (eq-eqb t.differs 0 d, le-leb count t.seen l, eq-eqb t.made (total_moves s) (e ∙ whole))
+      pub end_agrees : t.made ≡ total → all_agree ≡ end_of s t count
+      end_agrees e = rw (d, le-leb count t.seen l, eq-eqb t.made (total_moves s) (e ∙ whole))
 
-      pub end_early : (t.made ≡ total → ⊥) → Early t.made ≡ end_of s t count
-      end_early e = rw (eq-eqb t.differs 0 d, le-leb count t.seen l, ne_eqb t.made (total_moves s) (λ h. e (h ∙ sym whole)))
+      pub end_early : (t.made ≡ total → ⊥) → ends_early t.made ≡ end_of s t count
+      end_early e = rw (d, le-leb count t.seen l, ne_eqb t.made (total_moves s) (λ h. e (h ∙ sym whole)))

@@ -1,8 +1,8 @@
 -- What the text of a capture is: moves, each with its code and the records after it, or the first line that is refused.
-use Rattle.std.specs.Prelude.{ℕ, suc, ◌+◌, ◌*◌, List, [], ◌∷◌, Bool, cond, ◌&&◌, ◌||◌, length, eqb, leb, ltb}
+use Rattle.std.specs.Prelude.{Some, None, ℕ, suc, ◌+◌, ◌*◌, List, [], ◌∷◌, Bool, cond, ◌&&◌, ◌||◌, length, eqb, leb, ltb}
 use Rattle.texts.specs.Lines.{TextLine, ended, unended, lines_of}
 use Rattle.texts.specs.Numbers.{numbers_in}
-use Rattle.texts.specs.declared.read.Numbers.TheVariants.{Two, Four, Other}
+use Rattle.texts.specs.declared.read.Numbers.TheVariants.{Two, Four}
 use Rattle.array.specs.Cells.{cells}
 use Rattle.lists.specs.Lists.{total_moves}
 use Rattle.captures.specs.declared.Held.{Held}
@@ -48,12 +48,12 @@ capture_from s made next k [] = is_capture [] []
 capture_from s made next k (unended ∷ ls) = no_capture k
 capture_from s made next k (ended line ∷ ls) =
     elim (numbers_in line) [
-      | Two number code ↦ cond (in_turn s made number) (with_move code (capture_from s number 0 (suc k) ls)) (no_capture k)
-      | Four cell slot word aim ↦
+      | Some (Two number code) ↦ cond (in_turn s made number) (with_move code (capture_from s number 0 (suc k) ls)) (no_capture k)
+      | Some (Four cell slot word aim) ↦
           cond (in_place s made next (held_of cell slot word aim))
           (with_record (held_of cell slot word aim) (capture_from s made (suc (order_of (held_of cell slot word aim))) (suc k) ls))
           (no_capture k)
-      | Other ↦ no_capture k
+      | None ↦ no_capture k
     ]
 
 -- a capture of more than 65,536 bytes, or of a side above 3, is refused before anything in it is judged

@@ -1,42 +1,21 @@
 -- What private functions' contracts cite; the public contracts are read without it.
-use Rattle.std.specs.Prelude.{ℕ, suc, ◌+◌, ◌≤◌, ◌≡◌, Bool, true, false, cond, List, [], ◌∷◌, ◌++◌, eqb, leb, length, take, drop}
+use Rattle.std.specs.Prelude.{Option, Some, None, ℕ, suc, ◌-◌, ◌≤◌, ◌≡◌, Bool, true, false, cond, List, [], ◌∷◌, eqb, leb, length, take, drop}
+use Rattle.std.specs.Option.{option_or}
 use Rattle.array.specs.Cells.{is_side, cells}
-use Rattle.lists.specs.Lists.{total_moves}
+use Rattle.std.specs.List.{slice_get}
+use Rattle.runs.specs.Runs.{codes}
+use Rattle.lists.specs.Lists.{total_moves, concentrate_runs}
 use Rattle.texts.specs.declared.read.Numbers.{Numbers}
-use Rattle.texts.specs.declared.read.Numbers.TheVariants.{Two, Four, Other}
+use Rattle.texts.specs.declared.read.Numbers.TheVariants.{Two, Four}
 use Rattle.lists.specs.declared.Trip.TheVariants.{Concentrate}
 use Rattle.refusals.specs.Cases.{Good}
 use Rattle.captures.specs.declared.Held.{Held}
-use Rattle.captures.specs.declared.Replayed.{Replayed}
-use Rattle.captures.specs.declared.Replayed.TheVariants.{Agrees, Differs, Early, Refused}
+use Rattle.captures.specs.Told.{Told}
+use Rattle.captures.specs.Told.{all_agree, differs_at, ends_early, is_refused}
 use Rattle.captures.specs.declared.walk.Tally.{Tally}
-use Rattle.captures.specs.declared.walk.Next.{Next}
-use Rattle.captures.specs.declared.walk.Next.TheVariants.{On, Bad}
 use Rattle.captures.specs.Captures.{held_of, order_of, CaptureVerdict, is_capture, no_capture, in_turn, in_place}
 use Rattle.captures.specs.Replays.{records_after, code_at, same_held, same_records, compared}
-use Rattle.captures.specs.declared.state.Records.{Records}
 use Rattle.captures.specs.declared.state.Start.{Start}
-
--- the records of a table that has room for more
-abbrev pub list_in : Records → List Held
-list_in r = take r.count r.list
-
--- it has room for 162 of them, and holds at most so many
-pub record Roomy (most : ℕ) (r : Records) : Type 0 where
-  pub long : length r.list ≡ 162
-  pub few : r.count ≤ most
-
--- a table with some records more at its end, at most so many
-pub record WithMore (more : List Held) (most : ℕ) (r r' : Records) : Type 0 where
-  pub long : length r'.list ≡ 162
-  pub list : list_in r' ≡ list_in r ++ more
-  pub few : r'.count ≤ r.count + most
-
--- these records and no others
-pub record Listing (records : List Held) (r : Records) : Type 0 where
-  pub long : length r.list ≡ 162
-  pub list : list_in r ≡ records
-  pub size : r.count ≡ length records
 
 -- lanes stand at the front of the arrays of a starting table
 pub record Loaded (words marks aims : List ℕ) (b : Start) : Type 0 where
@@ -74,13 +53,22 @@ expected_at s words marks aims made = cond (eqb made 0) [] (records_after s word
 abbrev pub expected_from : ℕ → Start → ℕ → List Held
 expected_from s b made = expected_at s (take (cells s) b.words) (take (cells s) b.marks) (take (cells s) b.aims) made
 
--- the first of two moves that differ, where 0 says that none does
-abbrev pub earlier : ℕ → ℕ → ℕ
-earlier d e = cond (eqb d 0) e d
+-- the code of a move of the list, by its number from 1, where the list has it
+abbrev pub code_in : ℕ → ℕ → Option ℕ
+code_in s number = slice_get (codes (concentrate_runs s)) (number - 1)
+
+-- a move, where something does not hold there
+abbrev pub unless : Bool → ℕ → Option ℕ
+unless holds number = cond holds None (Some number)
+
+-- what follows, where nothing differs; and else the move that does
+abbrev pub following : Told → Option ℕ → Told
+following x None = x
+following x (Some d) = differs_at d
 
 -- nothing was read yet
 abbrev pub no_tally : Tally
-no_tally = record { made = 0; next = 0; seen = 0; differs = 0 }
+no_tally = record { made = 0; next = 0; seen = 0; differs = None }
 
 -- behind the line of a move: the records before it should have been so many, and its code that of the list
 abbrev pub behind_move : ℕ → Tally → ℕ → ℕ → ℕ → Tally
@@ -89,7 +77,7 @@ behind_move s t count number code =
       made = number;
       next = 0;
       seen = 0;
-      differs = earlier t.differs (earlier (cond (leb count t.seen) 0 t.made) (cond (eqb code (code_at s number)) 0 number));
+      differs = option_or (option_or t.differs (unless (leb count t.seen) t.made)) (unless (eqb code (code_at s number)) number);
     }
 
 -- a record is the first of these
@@ -104,31 +92,29 @@ behind_record t records h =
       made = t.made;
       next = suc (order_of h);
       seen = suc t.seen;
-      differs = earlier t.differs (cond (is_first h (drop t.seen records)) 0 t.made);
+      differs = option_or t.differs (unless (is_first h (drop t.seen records)) t.made);
     }
 
 -- what a line does to a tally, by its numbers
-unfoldable pub next_of : ℕ → Tally → Records → Numbers → Next
-next_of s t r (Two number code) = cond (in_turn s t.made number) (On (behind_move s t r.count number code)) Bad
-next_of s t r (Four cell slot word aim) =
-    cond (in_place s t.made t.next (held_of cell slot word aim)) (On (behind_record t (list_in r) (held_of cell slot word aim))) Bad
-next_of s t r Other = Bad
+unfoldable pub next_of : ℕ → Tally → List Held → Option Numbers → Option Tally
+next_of s t r (Some (Two number code)) = cond (in_turn s t.made number) (Some (behind_move s t (length r) number code)) None
+next_of s t r (Some (Four cell slot word aim)) =
+    cond (in_place s t.made t.next (held_of cell slot word aim)) (Some (behind_record t r (held_of cell slot word aim))) None
+next_of s t r None = None
 
 -- what a tally comes to at the end of a capture
-abbrev pub end_of : ℕ → Tally → ℕ → Replayed
+abbrev pub end_of : ℕ → Tally → ℕ → Told
 end_of s t count =
-    cond (eqb t.differs 0)
-    (cond (leb count t.seen) (cond (eqb t.made (total_moves s)) Agrees (Early t.made)) (Differs t.made))
-    (Differs t.differs)
+    following (cond (leb count t.seen) (cond (eqb t.made (total_moves s)) all_agree (ends_early t.made)) (differs_at t.made)) t.differs
 
 -- and where lines follow it of which this is the verdict
-unfoldable pub resolved : ℕ → List ℕ → List ℕ → List ℕ → Tally → CaptureVerdict → Replayed
+unfoldable pub resolved : ℕ → List ℕ → List ℕ → List ℕ → Tally → CaptureVerdict → Told
 resolved s words marks aims t (is_capture hs ms) =
-    cond (eqb t.differs 0)
-    (cond (same_records hs (drop t.seen (expected_at s words marks aims t.made))) (compared s words marks aims t.made ms) (Differs t.made))
-    (Differs t.differs)
-resolved s words marks aims t (no_capture k) = Refused 10 k
+    following
+    (cond (same_records hs (drop t.seen (expected_at s words marks aims t.made))) (compared s words marks aims t.made ms) (differs_at t.made))
+    t.differs
+resolved s words marks aims t (no_capture k) = is_refused 10 k
 
 -- the same of a starting table in its arrays
-abbrev pub resolved_from : ℕ → Start → Tally → CaptureVerdict → Replayed
+abbrev pub resolved_from : ℕ → Start → Tally → CaptureVerdict → Told
 resolved_from s b t v = resolved s (take (cells s) b.words) (take (cells s) b.marks) (take (cells s) b.aims) t v

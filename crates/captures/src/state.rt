@@ -1,68 +1,111 @@
 // The records of the board after a move, in their order.
-ghost use Rattle.std.specs.Prelude.{◌≡◌, ◌&&◌, [], ◌++◌, ◌+◌, ◌≤◌, ◌<◌, eqb, length};
+ghost use Rattle.std.specs.Prelude.{◌≡◌, ◌&&◌, [], ◌∷◌, ◌++◌, ◌≤◌, ◌<◌, eqb, length};
+ghost use Rattle.std.specs.List.{slice_get};
 ghost use Rattle.array.specs.Cells.{cells};
 ghost use Rattle.lists.specs.Lists.{total_moves};
 ghost use Rattle.slots.specs.Cells.{cell_at, Sized};
-ghost use Rattle.slots.specs.Lanes.{Long};
+ghost use Rattle.slots.specs.Lanes.{LongLent, LongSlots, cells_in};
 ghost use Rattle.captures.specs.Replays.{held_in, held_below, records_after};
-ghost use Rattle.captures.specs.Inside.{Roomy, WithMore, Listing, Loaded, Startable, Started, records_from};
+ghost use Rattle.captures.specs.Inside.{Loaded, Startable, Started, records_from};
 
 use crate::Held;
+use array::lent::{LentLanes, LentSlots};
 use records::concentrate_cut;
 use slots::Rec;
+use std::marker::Model;
 
 // The lanes of a starting table: a board of side 3 has 81 cells.
-#[derive(Clone, Copy)]
+#[derive(Clone, Copy, Debug, PartialEq, Eq)]
 pub(crate) struct Start {
     words: [u32; 81],
     marks: [u8; 81],
     aims: [u16; 81],
 }
 
-// Records in their order, at most two of each cell.
-#[derive(Clone, Copy)]
+// Records in their order, at most two of each cell. Clauses see the list of them.
+#[derive(Debug, Drop)]
 pub(crate) struct Records {
-    pub list: [Held; 162],
-    pub count: usize,
+    list: [Held; 162],
+    count: usize,
 }
 
-pub(crate) fn no_records() -> Records
-    ensures { Listing [] result }
-{
-    let none = Held {
-        cell: 0,
-        slot: 0,
-        word: 0,
-        aim: 0,
-    };
-    Records {
-        list: [none; 162],
-        count: 0,
+impl Model for Records {
+    ghost use Rattle.std.specs.Prelude.{List, take, length, ◌≤◌, ◌≡◌};
+    ghost use Rattle.captures.specs.declared.Held.{Held};
+
+    ghost Value = { List Held };
+
+    ghost view = { λ r. take r.count r.list };
+
+    ghost invariant = { λ r. (r.count ≤ 162) × (length r.list ≡ 162) };
+}
+
+impl Records {
+    pub(crate) fn new() -> Records
+        ensures { result ≡ [] }
+    {
+        let none = Held {
+            cell: 0,
+            slot: 0,
+            word: 0,
+            aim: 0,
+        };
+        Records {
+            list: [none; 162],
+            count: 0,
+        }
+    }
+
+    pub(crate) fn len(&self) -> usize
+        ensures { result ≡ length self.now }
+    {
+        self.count
+    }
+
+    // Record k, where there are as many.
+    pub(crate) fn get(&self, k: usize) -> Option<Held>
+        ensures { result ≡ slice_get self.now k }
+    {
+        if self.count <= k {
+            return None;
+        }
+        Some(self.list[k])
+    }
+
+    fn clear(&mut self)
+        ensures { self.new ≡ [] }
+    {
+        self.count = 0;
+    }
+
+    fn push(&mut self, held: Held)
+        requires { length self.old < 162 }
+        ensures { self.new ≡ self.old ++ held ∷ [] }
+    {
+        self.list[self.count] = held;
+        self.count += 1;
     }
 }
 
 // Puts the record of a slot behind the others, where there is one.
 fn with_slot(records: &mut Records, cell: usize, slot: usize, rec: Rec)
-    requires { Roomy 161 records.old }
-    ensures { WithMore (held_in cell slot rec) 1 records.old records.new }
+    requires { length records.old < 162 }
+    ensures { records.new ≡ records.old ++ held_in cell slot rec }
 {
-    if rec.mark == 0 {
-        return;
+    if rec.mark != 0 {
+        records.push(Held {
+            cell,
+            slot,
+            word: rec.word,
+            aim: u32::from(rec.aim),
+        });
     }
-    let count = records.count;
-    records.list[count] = Held {
-        cell: cell,
-        slot: slot,
-        word: rec.word,
-        aim: rec.aim as u32,
-    };
-    records.count = count + 1;
 }
 
 // And those of a cell.
 fn with_cell(records: &mut Records, cell: usize, front: Rec, spare: Rec)
-    requires { Roomy 160 records.old }
-    ensures { WithMore (held_in cell 0 front ++ held_in cell 1 spare) 2 records.old records.new }
+    requires { length records.old ≤ 160 }
+    ensures { records.new ≡ records.old ++ (held_in cell 0 front ++ held_in cell 1 spare) }
 {
     with_slot(records, cell, 0, front);
     with_slot(records, cell, 1, spare);
@@ -74,7 +117,7 @@ fn holds_none(front: Rec, spare: Rec) -> bool
     front.mark == 0 && spare.mark == 0
 }
 
-// The records of n cells. A cell that holds none is passed over.
+// Puts the records of n cells in place of others. A cell that holds none is passed over.
 fn records_in(
     n: usize,
     words: &[u32],
@@ -83,14 +126,14 @@ fn records_in(
     spare_words: &[u32],
     spare_marks: &[u8],
     spare_aims: &[u16],
-) -> Records
+    records: &mut Records,
+)
     requires n_bound { n ≤ 81 }
     requires long { Sized n words.now marks.now aims.now spare_words.now spare_marks.now spare_aims.now }
-    ensures { Listing (held_below (cell_at words.now marks.now aims.now spare_words.now spare_marks.now spare_aims.now) n) result }
+    ensures { records.new ≡ held_below (cell_at words.now marks.now aims.now spare_words.now spare_marks.now spare_aims.now) n }
 {
-    let mut records = no_records();
-    let mut i: usize = 0;
-    while i < n {
+    records.clear();
+    for i in 0..n {
         let front = Rec {
             word: words[i],
             mark: marks[i],
@@ -102,56 +145,45 @@ fn records_in(
             aim: spare_aims[i],
         };
         if !holds_none(front, spare) {
-            with_cell(&mut records, i, front, spare);
+            with_cell(records, i, front, spare);
         }
-        i += 1;
     }
-    records
 }
 
 // The records after so many moves, on lanes that hold the starting table.
-fn records_on(
-    side: usize,
-    made: usize,
-    words: &mut [u32],
-    marks: &mut [u8],
-    aims: &mut [u16],
-    spare_words: &mut [u32],
-    spare_marks: &mut [u8],
-    spare_aims: &mut [u16],
-) -> Records
-    requires startable { Startable side words.old marks.old aims.old }
-    requires long { Long (cells side) words marks aims spare_words spare_marks spare_aims }
+fn records_on(side: usize, made: usize, lanes: &mut LentLanes, records: &mut Records)
+    requires startable { Startable side lanes.old.front.now.words.now lanes.old.front.now.marks.now lanes.old.front.now.aims.now }
+    requires long { LongLent (cells side) lanes.old }
     requires made_bound { made ≤ total_moves side }
-    ensures { Listing (records_after side words.old marks.old aims.old made) result }
+    ensures { records.new ≡ records_after side lanes.old.front.now.words.now lanes.old.front.now.marks.now lanes.old.front.now.aims.now made }
 {
-    concentrate_cut(
-        side,
-        made,
-        words,
-        marks,
-        aims,
-        spare_words,
-        spare_marks,
-        spare_aims,
-    );
+    let _ = concentrate_cut(side, made, lanes);
+    records_of(lanes.front, lanes.spare, records);
+}
+
+fn records_of(front: &LentSlots, spare: &LentSlots, records: &mut Records)
+    requires n_bound { length front.now.words.now ≤ 81 }
+    requires long { LongSlots (length front.now.words.now) front.now spare.now }
+    ensures { records.new ≡ held_below (cells_in front.now spare.now) (length front.now.words.now) }
+{
     records_in(
-        words.len(),
-        words,
-        marks,
-        aims,
-        spare_words,
-        spare_marks,
-        spare_aims,
-    )
+        front.words.len(),
+        front.words,
+        front.marks,
+        front.aims,
+        spare.words,
+        spare.marks,
+        spare.aims,
+        records,
+    );
 }
 
 // The records after so many moves. Every state is made from the start, by the run that is proved: there are at most 16 moves.
-pub(crate) fn records_after(side: usize, n: usize, made: usize, start: Start) -> Records
+pub(crate) fn records_after(side: usize, n: usize, made: usize, start: Start, records: &mut Records)
     requires started { Started side start }
     requires n_value { n ≡ cells side }
     requires made_bound { made ≤ total_moves side }
-    ensures { Listing (records_from side start made) result }
+    ensures { records.new ≡ records_from side start made }
 {
     let mut words = start.words;
     let mut marks = start.marks;
@@ -159,16 +191,21 @@ pub(crate) fn records_after(side: usize, n: usize, made: usize, start: Start) ->
     let mut spare_words = [0u32; 81];
     let mut spare_marks = [0u8; 81];
     let mut spare_aims = [0u16; 81];
-    records_on(
-        side,
-        made,
-        &mut words[..n],
-        &mut marks[..n],
-        &mut aims[..n],
-        &mut spare_words[..n],
-        &mut spare_marks[..n],
-        &mut spare_aims[..n],
-    )
+    let mut front = LentSlots {
+        words: &mut words[..n],
+        marks: &mut marks[..n],
+        aims: &mut aims[..n],
+    };
+    let mut spare = LentSlots {
+        words: &mut spare_words[..n],
+        marks: &mut spare_marks[..n],
+        aims: &mut spare_aims[..n],
+    };
+    let mut lanes = LentLanes {
+        front: &mut front,
+        spare: &mut spare,
+    };
+    records_on(side, made, &mut lanes, records);
 }
 
 // The lanes of a starting table, in arrays.
@@ -181,13 +218,10 @@ pub(crate) fn load(words: &[u32], marks: &[u8], aims: &[u16]) -> Start
     let mut w = [0u32; 81];
     let mut m = [0u8; 81];
     let mut a = [0u16; 81];
-    let mut i: usize = 0;
-    while i < words.len() {
-        w[i] = words[i];
-        m[i] = marks[i];
-        a[i] = aims[i];
-        i += 1;
-    }
+    let n = words.len();
+    w[..n].copy_from_slice(words);
+    m[..n].copy_from_slice(marks);
+    a[..n].copy_from_slice(aims);
     Start {
         words: w,
         marks: m,

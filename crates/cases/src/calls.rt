@@ -1,18 +1,17 @@
 // Each stepping entry is called here and nowhere else; its run is printed: what is called, its answer, and what it leaves. The plain entry is run
 // behind it on the same lanes.
-use crate::frames::{lane_cells, lane_within};
-use crate::names::{operation_name, run_name};
+use crate::frames::{Frame, lane_cells};
 use crate::plainly::{plain_rank, plain_records, plain_words};
 use crate::show;
-use crate::show::{text, value};
-use answers::Answer;
+use answers::{Moves, Refusal};
+use array::lent::{LentLanes, LentSlots};
 use lists::Trip;
 use ranking::rank;
 use shiftlists::{Axis, Edge};
 use stretches::{group_words, group_words_answer};
 
 // An operation on words.
-#[derive(Clone, Copy)]
+#[derive(Clone, Copy, Debug, PartialEq, Eq)]
 pub(crate) enum Operation {
     Broadcast(usize),
     DataSum,
@@ -20,7 +19,12 @@ pub(crate) enum Operation {
     Shift(Axis, Edge, i32),
 }
 
-fn on_words(operation: Operation, side: usize, words: &mut [u32], codes: &mut [u8]) -> Answer {
+fn on_words(
+    operation: Operation,
+    side: usize,
+    words: &mut [u32],
+    codes: &mut [u8],
+) -> Result<Moves, Refusal> {
     match operation {
         Operation::Broadcast(cell) => words::broadcast(side, cell, words, codes),
         Operation::DataSum => words::data_sum(side, words, codes),
@@ -30,173 +34,129 @@ fn on_words(operation: Operation, side: usize, words: &mut [u32], codes: &mut [u
 }
 
 // A run of records, whole or up to a cut.
-#[derive(Clone, Copy)]
+#[derive(Clone, Copy, Debug, PartialEq, Eq)]
 pub(crate) enum RecordsRun {
     Whole(Trip),
     Cut(Trip, usize),
 }
 
-// The lanes that are numbered 2 are the spare ones; the log holds the codes.
 fn on_records(
     run: RecordsRun,
     side: usize,
-    words: &mut [u32],
-    marks: &mut [u8],
-    aims: &mut [u16],
-    words2: &mut [u32],
-    marks2: &mut [u8],
-    aims2: &mut [u16],
-    log: &mut [u8],
+    lanes: &mut LentLanes,
+    codes: &mut [u8],
     moved: &mut [u16],
-) -> Answer {
+) -> Result<Moves, Refusal> {
     match run {
-        RecordsRun::Whole(trip) => match trip {
-            Trip::Concentrate => {
-                records::concentrate(side, words, marks, aims, words2, marks2, aims2, log, moved)
-            }
-            Trip::Distribute => {
-                records::distribute(side, words, marks, aims, words2, marks2, aims2, log, moved)
-            }
-        },
-        RecordsRun::Cut(trip, cut) => match trip {
-            Trip::Concentrate => {
-                records::concentrate_cut(side, cut, words, marks, aims, words2, marks2, aims2)
-            }
-            Trip::Distribute => {
-                records::distribute_cut(side, cut, words, marks, aims, words2, marks2, aims2)
-            }
-        },
+        RecordsRun::Whole(Trip::Concentrate) => records::concentrate(side, lanes, codes, moved),
+        RecordsRun::Whole(Trip::Distribute) => records::distribute(side, lanes, codes, moved),
+        RecordsRun::Cut(Trip::Concentrate, cut) => records::concentrate_cut(side, cut, lanes),
+        RecordsRun::Cut(Trip::Distribute, cut) => records::distribute_cut(side, cut, lanes),
     }
 }
 
-// A run on the lanes of a board, with spare lanes of 7s, and logs of 9s that are lent so far.
-fn step_records(
-    rt: &HostRuntime,
-    run: RecordsRun,
-    side: usize,
-    log: usize,
-    mut words: [u32; 4096],
-    mut marks: [u8; 4096],
-    mut aims: [u16; 4096],
-) {
+// A run on the lanes of a board, with spare lanes of 7s, and logs of 9s that are lent so far. A run up to a cut has no logs.
+fn step_records(rt: &impl Print, run: RecordsRun, side: usize, log: usize, frame: Frame) {
     let n = lane_cells(side);
-    let m = lane_within(log);
+    let m = log.min(4096);
+    let mut words = frame.words;
+    let mut marks = frame.marks;
+    let mut aims = frame.aims;
     let mut spare_words = [7u32; 4096];
     let mut spare_marks = [7u8; 4096];
     let mut spare_aims = [7u16; 4096];
     let mut codes = [9u8; 4096];
     let mut moved = [9u16; 4096];
-    run_name(rt, run);
+    let mut front = LentSlots {
+        words: &mut words[..n],
+        marks: &mut marks[..n],
+        aims: &mut aims[..n],
+    };
+    let mut spare = LentSlots {
+        words: &mut spare_words[..n],
+        marks: &mut spare_marks[..n],
+        aims: &mut spare_aims[..n],
+    };
+    let mut lanes = LentLanes {
+        front: &mut front,
+        spare: &mut spare,
+    };
+    let outcome = on_records(run, side, &mut lanes, &mut codes[..m], &mut moved[..m]);
+    let _ = print!(rt; "{run}");
     show::lent(rt, side, n, m);
-    show::answer(
-        rt,
-        on_records(
-            run,
-            side,
-            &mut words[..n],
-            &mut marks[..n],
-            &mut aims[..n],
-            &mut spare_words[..n],
-            &mut spare_marks[..n],
-            &mut spare_aims[..n],
-            &mut codes[..m],
-            &mut moved[..m],
-        ),
-    );
-    show::lanes(rt, n, words, marks, aims);
-    text(rt, b"spare\n");
-    show::lanes(rt, n, spare_words, spare_marks, spare_aims);
-    show::logs(rt, m, codes, moved);
+    show::answer(rt, outcome);
+    show::slots(rt, &words[..n], &marks[..n], &aims[..n]);
+    let _ = println!(rt; "spare");
+    show::slots(rt, &spare_words[..n], &spare_marks[..n], &spare_aims[..n]);
+    if 0 < m {
+        show::line(rt, "codes", &codes[..m]);
+        show::line(rt, "moved", &moved[..m]);
+    }
 }
 
 // A run up to a cut has no plain form.
-pub(crate) fn records_run(
-    rt: &HostRuntime,
-    run: RecordsRun,
-    side: usize,
-    log: usize,
-    words: [u32; 4096],
-    marks: [u8; 4096],
-    aims: [u16; 4096],
-) {
-    step_records(rt, run, side, log, words, marks, aims);
+pub(crate) fn records_run(rt: &impl Print, run: RecordsRun, side: usize, log: usize, frame: Frame) {
+    step_records(rt, run, side, log, frame);
     if let RecordsRun::Whole(trip) = run {
-        plain_records(rt, trip, side, words, marks, aims);
+        plain_records(rt, trip, side, frame);
     }
 }
 
 // Rank on the marks of a board, with a log of 9s: gives the aims as well.
-fn step_rank(rt: &HostRuntime, side: usize, log: usize, marks: [u8; 4096]) -> [u16; 4096] {
-    let n = lane_cells(side);
-    let m = lane_within(log);
-    let mut aims = [9u16; 4096];
-    let mut codes = [9u8; 4096];
-    text(rt, b"rank");
-    show::lent(rt, side, n, m);
-    show::answer(rt, rank(side, &marks[..n], &mut aims[..n], &mut codes[..m]));
-    show::codes(rt, m, codes);
-    show::aims(rt, n, aims);
-    aims
-}
-
 pub(crate) fn rank_run(
-    rt: &HostRuntime,
+    rt: &impl Print,
     side: usize,
     log: usize,
-    marks: [u8; 4096],
+    marks: &[u8; 4096],
 ) -> [u16; 4096] {
-    let aims = step_rank(rt, side, log, marks);
+    let n = lane_cells(side);
+    let m = log.min(4096);
+    let mut aims = [9u16; 4096];
+    let mut codes = [9u8; 4096];
+    let outcome = rank(side, &marks[..n], &mut aims[..n], &mut codes[..m]);
+    let _ = print!(rt; "rank");
+    show::lent(rt, side, n, m);
+    show::answer(rt, outcome);
+    show::line(rt, "codes", &codes[..m]);
+    show::line(rt, "aims", &aims[..n]);
     plain_rank(rt, side, marks);
     aims
 }
 
 // An operation on the first words of a lane, with a log of 9s.
-fn step_words(
-    rt: &HostRuntime,
-    operation: Operation,
-    side: usize,
-    lane: usize,
-    log: usize,
-    mut words: [u32; 4096],
-) {
-    let n = lane_within(lane);
-    let m = lane_within(log);
-    let mut codes = [9u8; 4096];
-    operation_name(rt, operation);
-    show::lent(rt, side, n, m);
-    show::answer(
-        rt,
-        on_words(operation, side, &mut words[..n], &mut codes[..m]),
-    );
-    show::codes(rt, m, codes);
-    show::words(rt, n, words);
-}
-
 pub(crate) fn words_run(
-    rt: &HostRuntime,
+    rt: &impl Print,
     operation: Operation,
     side: usize,
     lane: usize,
     log: usize,
     words: [u32; 4096],
 ) {
-    step_words(rt, operation, side, lane, log, words);
+    let n = lane.min(4096);
+    let m = log.min(4096);
+    let mut stepped = words;
+    let mut codes = [9u8; 4096];
+    let outcome = on_words(operation, side, &mut stepped[..n], &mut codes[..m]);
+    let _ = print!(rt; "{operation}");
+    show::lent(rt, side, n, m);
+    show::answer(rt, outcome);
+    show::line(rt, "codes", &codes[..m]);
+    show::line(rt, "words", &stepped[..n]);
     plain_words(rt, operation, side, lane, words);
 }
 
 // The stretch of a group as it is handed back, and all words.
 pub(crate) fn group_run(
-    rt: &HostRuntime,
+    rt: &impl Print,
     side: usize,
     group: usize,
     lane: usize,
-    words: [u32; 4096],
+    words: &[u32; 4096],
 ) {
-    let n = lane_within(lane);
-    text(rt, b"group words");
-    value(rt, group as u64);
+    let n = lane.min(4096);
+    let _ = print!(rt; "group words\t{group}");
     show::lent(rt, side, n, 0);
     show::answer(rt, group_words_answer(side, group, &words[..n]));
-    show::part(rt, group_words(side, group, &words[..n]));
-    show::words(rt, n, words);
+    show::line(rt, "part", group_words(side, group, &words[..n]));
+    show::line(rt, "words", &words[..n]);
 }

@@ -2,132 +2,107 @@
 ghost use Rattle.std.specs.Prelude.{◌≤◌};
 
 use crate::calls::{RecordsRun, rank_run, records_run};
-use crate::frames::{Gathered, counting_up, gather, marks_at, marks_of};
-use crate::show::text;
+use crate::frames::{Frame, counting_up, gathered, marks_at, marks_of};
 use lists::Trip;
 
+const ALL_MARKED: [u8; 4096] = [1; 4096];
+
 // After move 1, and after all.
-fn both(
-    rt: &HostRuntime,
-    trip: Trip,
-    side: usize,
-    log: usize,
-    words: [u32; 4096],
-    marks: [u8; 4096],
-    aims: [u16; 4096],
-) {
-    records_run(rt, RecordsRun::Cut(trip, 1), side, 0, words, marks, aims);
-    records_run(rt, RecordsRun::Whole(trip), side, log, words, marks, aims);
+fn both(rt: &impl Print, trip: Trip, side: usize, log: usize, frame: Frame) {
+    records_run(rt, RecordsRun::Cut(trip, 1), side, 0, frame);
+    records_run(rt, RecordsRun::Whole(trip), side, log, frame);
 }
 
-fn concentrated(rt: &HostRuntime, side: usize, log: usize, words: [u32; 4096], marks: [u8; 4096]) {
+fn concentrated(rt: &impl Print, side: usize, log: usize, words: [u32; 4096], marks: [u8; 4096]) {
+    let aims = rank_run(rt, side, log, &marks);
     both(
         rt,
         Trip::Concentrate,
         side,
         log,
-        words,
-        marks,
-        rank_run(rt, side, log, marks),
+        Frame { words, marks, aims },
     );
 }
 
-fn job(rt: &HostRuntime) {
+fn job(rt: &impl Print) {
     let mut words = [0u32; 4096];
     words[1] = 70;
     words[6] = 71;
     words[11] = 72;
-    text(rt, b"case\tthe job of the scope\n");
-    concentrated(rt, 2, 9, words, marks_at(1, 6, 11));
+    let _ = println!(rt; "case\tthe job of the scope");
+    concentrated(rt, 2, 9, words, marks_at(&[1, 6, 11]));
 }
 
-fn distributed(rt: &HostRuntime) {
-    let front = gather(2, marks_at(1, 6, 11));
-    let marks = front.marks;
-    let aims = front.aims;
-    text(rt, b"case\tdistribute to 1, 6, 11\n");
-    both(rt, Trip::Distribute, 2, 9, counting_up(100), marks, aims);
+fn distributed(rt: &impl Print) {
+    let frame = gathered(2, 100, &marks_at(&[1, 6, 11]));
+    let _ = println!(rt; "case\tdistribute to 1, 6, 11");
+    both(rt, Trip::Distribute, 2, 9, frame);
 }
 
-pub(crate) fn starred(rt: &HostRuntime) {
+pub(crate) fn starred(rt: &impl Print) {
     let words = counting_up(100);
-    text(rt, b"case\tside 1, one cell marked\n");
-    concentrated(rt, 1, 2, words, [1u8; 4096]);
-    text(rt, b"case\tside 2, marks at 0, 4, 5\n");
-    concentrated(rt, 2, 9, words, marks_at(0, 4, 5));
+    let _ = println!(rt; "case\tside 1, one cell marked");
+    concentrated(rt, 1, 2, words, ALL_MARKED);
+    let _ = println!(rt; "case\tside 2, marks at 0, 4, 5");
+    concentrated(rt, 2, 9, words, marks_at(&[0, 4, 5]));
     job(rt);
     distributed(rt);
-    text(rt, b"case\tside 2, all marked\n");
-    concentrated(rt, 2, 9, words, [1u8; 4096]);
-    text(rt, b"case\tside 2, none marked\n");
-    concentrated(rt, 2, 9, words, [0u8; 4096]);
+    let _ = println!(rt; "case\tside 2, all marked");
+    concentrated(rt, 2, 9, words, ALL_MARKED);
+    let _ = println!(rt; "case\tside 2, none marked");
+    concentrated(rt, 2, 9, words, [0; 4096]);
 }
 
-// All cells of side 8 marked, each aimed at itself, which is its rank: concentrate and distribute take them.
-fn all_marked(rt: &HostRuntime, run: RecordsRun, side: usize, log: usize, aims: [u16; 4096]) {
-    records_run(rt, run, side, log, counting_up(1), [1u8; 4096], aims);
+fn at_side(rt: &impl Print, side: usize, frame: Frame) {
+    rank_run(rt, side, 51, &ALL_MARKED);
+    records_run(rt, RecordsRun::Whole(Trip::Concentrate), side, 51, frame);
+    records_run(rt, RecordsRun::Whole(Trip::Distribute), side, 51, frame);
+    records_run(rt, RecordsRun::Cut(Trip::Concentrate, 0), side, 0, frame);
+    records_run(rt, RecordsRun::Cut(Trip::Distribute, 0), side, 0, frame);
 }
 
-fn at_side(rt: &HostRuntime, side: usize, aims: [u16; 4096]) {
-    rank_run(rt, side, 51, [1u8; 4096]);
-    all_marked(rt, RecordsRun::Whole(Trip::Concentrate), side, 51, aims);
-    all_marked(rt, RecordsRun::Whole(Trip::Distribute), side, 51, aims);
-    all_marked(rt, RecordsRun::Cut(Trip::Concentrate, 0), side, 0, aims);
-    all_marked(rt, RecordsRun::Cut(Trip::Distribute, 0), side, 0, aims);
+fn at_cut(rt: &impl Print, cut: usize, frame: Frame) {
+    records_run(rt, RecordsRun::Cut(Trip::Concentrate, cut), 8, 0, frame);
+    records_run(rt, RecordsRun::Cut(Trip::Distribute, cut), 8, 0, frame);
 }
 
-fn at_cut(rt: &HostRuntime, cut: usize, aims: [u16; 4096]) {
-    all_marked(rt, RecordsRun::Cut(Trip::Concentrate, cut), 8, 0, aims);
-    all_marked(rt, RecordsRun::Cut(Trip::Distribute, cut), 8, 0, aims);
-}
-
-// The sides and the cuts at the edge of what is accepted.
-pub(crate) fn edges(rt: &HostRuntime) {
-    let aims = rank_run(rt, 8, 51, [1u8; 4096]);
-    at_side(rt, 8, aims);
-    at_side(rt, 9, aims);
-    at_side(rt, 0, aims);
-    at_cut(rt, 51, aims);
-    at_cut(rt, 52, aims);
-}
-
-// After every cut, 0 to all.
-fn states(
-    rt: &HostRuntime,
-    trip: Trip,
-    side: usize,
-    words: [u32; 4096],
-    marks: [u8; 4096],
-    aims: [u16; 4096],
-)
-    requires { side ≤ 8 }
-{
-    let mut cut: usize = 0;
-    while cut + 5 <= 7 * side {
-        records_run(rt, RecordsRun::Cut(trip, cut), side, 0, words, marks, aims);
-        cut += 1;
+// The sides and the cuts at the edge of what is accepted. All cells of side 8 are marked, each aimed at itself, which is its rank: concentrate
+// and distribute take them.
+pub(crate) fn edges(rt: &impl Print) {
+    let frame = Frame {
+        words: counting_up(1),
+        marks: ALL_MARKED,
+        aims: rank_run(rt, 8, 51, &ALL_MARKED),
+    };
+    for side in [8, 9, 0] {
+        at_side(rt, side, frame);
+    }
+    for cut in [51, 52] {
+        at_cut(rt, cut, frame);
     }
 }
 
-fn states_back(rt: &HostRuntime, side: usize, front: Gathered)
+// After every cut, 0 to all.
+fn states(rt: &impl Print, trip: Trip, side: usize, frame: Frame)
     requires { side ≤ 8 }
 {
-    let marks = front.marks;
-    let aims = front.aims;
-    states(rt, Trip::Distribute, side, counting_up(1000), marks, aims);
+    for cut in 0..(7 * side).saturating_sub(4) {
+        records_run(rt, RecordsRun::Cut(trip, cut), side, 0, frame);
+    }
 }
 
 // The states of concentrate, and of distribute back to the same cells.
-fn frame(rt: &HostRuntime, side: usize, kind: usize)
+fn frame(rt: &impl Print, side: usize, kind: usize)
     requires { (side ≤ 8) × (kind ≤ 64) }
 {
     let marks = marks_of(kind);
-    let aims = rank_run(rt, side, 64, marks);
-    states(rt, Trip::Concentrate, side, counting_up(1000), marks, aims);
-    states_back(rt, side, gather(side, marks));
+    let aims = rank_run(rt, side, 64, &marks);
+    let words = counting_up(1000);
+    states(rt, Trip::Concentrate, side, Frame { words, marks, aims });
+    states(rt, Trip::Distribute, side, gathered(side, 1000, &marks));
 }
 
-pub(crate) fn frames(rt: &HostRuntime) {
+pub(crate) fn frames(rt: &impl Print) {
     frame(rt, 1, 0);
     frame(rt, 2, 0);
     frame(rt, 2, 1);

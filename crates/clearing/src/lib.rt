@@ -2,82 +2,51 @@
 #![tactic(auto)]
 
 ghost use Rattle.std.specs.Prelude.{◌≡◌, cond, eqb};
-ghost use Rattle.laws.specs.Lent.{old, new};
-ghost use Rattle.clearing.specs.Cleared.{kept, zeros};
+ghost use Rattle.array.specs.Lent.{SameSlots};
+ghost use Rattle.clearing.specs.Cleared.{kept, kept_or, zeros};
+
+use array::lent::LentSlots;
 
 // What a cell of this mark keeps. It is stored in every cell, so that no branch hangs on the mark: on a crowded frame it would often be
 // guessed wrong.
-fn word_kept(mark: u8, word: u32) -> u32
-    ensures { result ≡ cond (eqb mark 1) word 0 }
+fn held<T: Copy>(mark: u8, own: T, empty: T) -> T
+    ensures { result ≡ cond (eqb mark 1) own empty }
 {
-    if mark == 1 { word } else { 0 }
+    if mark == 1 { own } else { empty }
 }
 
-fn aim_kept(mark: u8, aim: u16) -> u16
-    ensures { result ≡ cond (eqb mark 1) aim 0 }
+// Unmarked cells become empty. A lane that has not as many marks stays as it is.
+fn keep<T: Copy>(marks: &[u8], lane: &mut [T], empty: T)
+    ensures { lane.new ≡ kept_or empty marks.now lane.old }
 {
-    if mark == 1 { aim } else { 0 }
-}
-
-// Unmarked cells hold 0. A lane that has not as many marks stays as it is.
-pub fn keep_words(marks: &[u8], words: &mut [u32])
-    ensures { new words ≡ kept marks.now words.old }
-{
-    let n = words.len();
-    if marks.len() != n {
+    if marks.len() != lane.len() {
         return;
     }
-    let mut i: usize = 0;
-    while i < n {
-        words[i] = word_kept(marks[i], words[i]);
-        i += 1;
+    for i in 0..lane.len() {
+        lane[i] = held(marks[i], lane[i], empty);
     }
 }
 
-// Unmarked cells hold 0. A lane that has not as many marks stays as it is.
-pub fn keep_aims(marks: &[u8], aims: &mut [u16])
-    ensures { new aims ≡ kept marks.now aims.old }
+// The unmarked cells of a slot hold 0, in words and aims each. A lane that has not as many marks stays as it is.
+pub fn keep_marked(slots: &mut LentSlots)
+    ensures same { SameSlots slots.old slots.new }
+    ensures words { slots.new.words.now ≡ kept slots.old.marks.now slots.old.words.now }
+    ensures marks { slots.new.marks.now ≡ slots.old.marks.now }
+    ensures aims { slots.new.aims.now ≡ kept slots.old.marks.now slots.old.aims.now }
 {
-    let n = aims.len();
-    if marks.len() != n {
-        return;
-    }
-    let mut i: usize = 0;
-    while i < n {
-        aims[i] = aim_kept(marks[i], aims[i]);
-        i += 1;
-    }
+    let marks = &mut *slots.marks;
+    keep(marks, slots.words, 0);
+    keep(marks, slots.aims, 0);
 }
 
-// Every cell holds 0.
-pub fn zero_words(spare_words: &mut [u32])
-    ensures { new spare_words ≡ zeros spare_words.old }
+// Every cell of a slot's lanes holds 0.
+pub fn empty(slots: &mut LentSlots)
+    ensures same { SameSlots slots.old slots.new }
+    ensures words { slots.new.words.now ≡ zeros slots.old.words.now }
+    ensures marks { slots.new.marks.now ≡ zeros slots.old.marks.now }
+    ensures aims { slots.new.aims.now ≡ zeros slots.old.aims.now }
 {
-    let mut i: usize = 0;
-    while i < spare_words.len() {
-        spare_words[i] = 0;
-        i += 1;
-    }
-}
-
-// Every cell holds 0.
-pub fn zero_marks(spare_marks: &mut [u8])
-    ensures { new spare_marks ≡ zeros spare_marks.old }
-{
-    let mut i: usize = 0;
-    while i < spare_marks.len() {
-        spare_marks[i] = 0;
-        i += 1;
-    }
-}
-
-// Every cell holds 0.
-pub fn zero_aims(spare_aims: &mut [u16])
-    ensures { new spare_aims ≡ zeros spare_aims.old }
-{
-    let mut i: usize = 0;
-    while i < spare_aims.len() {
-        spare_aims[i] = 0;
-        i += 1;
-    }
+    slots.words.fill(0);
+    slots.marks.fill(0);
+    slots.aims.fill(0);
 }

@@ -4,7 +4,7 @@ use mathlib.Core.Bool.{Bool, true, false, ◌&&◌}
 use mathlib.Core.List.{List, [], ◌∷◌}
 use Rattle.runs.specs.declared.Run.{Run}
 use Rattle.answers.specs.declared.Answer.{Answer}
-use Rattle.answers.specs.declared.Case.{Case}
+use Rattle.answers.specs.Answers.{Case}
 use Rattle.answers.specs.Answers.{accepted_by, verdict, without_logs}
 use Rattle.answers.specs.Entry.{Entry, Unlogged}
 use Rattle.answers.proofs.Lowest.{ascending}

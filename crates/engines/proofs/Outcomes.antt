@@ -6,7 +6,7 @@ use lib.ListN.{length}
 use Rattle.laws.specs.Lent.{Lent, old, new}
 use Rattle.runs.specs.declared.Run.{Run}
 use Rattle.answers.specs.declared.Answer.{Answer}
-use Rattle.answers.specs.declared.Case.{Case}
+use Rattle.answers.specs.Answers.{Case}
 use Rattle.answers.specs.Answers.{without_logs}
 use Rattle.ranking.specs.Ranks.{ranks}
 use Rattle.ranking.specs.Entries.{rank_cases}

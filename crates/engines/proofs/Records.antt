@@ -10,7 +10,7 @@ use Rattle.laws.specs.Lent.{Lent, old, new}
 use Rattle.array.proofs.Board.{side_known}
 use Rattle.runs.specs.Runs.{moves}
 use Rattle.answers.specs.declared.Answer.{Answer}
-use Rattle.answers.specs.declared.Case.{Case}
+use Rattle.answers.specs.Answers.{Case}
 use Rattle.answers.specs.Answers.{accepted_by, verdict, without_logs}
 use Rattle.answers.proofs.Entering.{entry_accepted}
 use Rattle.answers.proofs.Outcomes.{left_with}

@@ -9,7 +9,7 @@ use lib.Dec.{ltb, leb, eqb}
 use borrow.Author.Tests.{eqb-true, eqb-false, ne_eqb, lt-ltb, le-ltb, ltb-true, leb-true}
 use Rattle.laws.proofs.Bools.{both_left, both_right, never}
 use Rattle.answers.specs.declared.Answer.{Answer}
-use Rattle.answers.specs.declared.Case.{Case}
+use Rattle.answers.specs.Answers.{Case}
 use Rattle.answers.specs.Answers.{verdict, without_logs}
 use Rattle.answers.proofs.Lowest.{none_below, ascending}
 use Rattle.answers.proofs.Verdicts.{all_refuse}

@@ -11,7 +11,7 @@ use Rattle.laws.proofs.Bools.{never}
 use Rattle.runs.specs.declared.Run.{Run}
 use Rattle.runs.specs.Runs.{no_runs}
 use Rattle.answers.specs.declared.Answer.{Answer}
-use Rattle.answers.specs.declared.Case.{Case}
+use Rattle.answers.specs.Answers.{Case}
 use Rattle.answers.specs.Answers.{case_of, side_case, lane_case, log_case, without_logs}
 use Rattle.words.specs.Entries.{sum_cases, OnWords}
 use Rattle.plainwords.specs.Entries.{PlainWords}

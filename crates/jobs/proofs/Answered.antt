@@ -6,6 +6,7 @@ use mathlib.Core.List.{List, []}
 use native.Mathlib.Omega.{arith}
 use lib.ListN.{length, get_or, take, length-map}
 use lib.Seq.{length-take-le, get_or-take}
+use Rattle.std.specs.Prelude.{Result, Ok, Err}
 use Rattle.laws.specs.Tables.{entries}
 use Rattle.laws.proofs.Sums.{sum_cong}
 use Rattle.laws.proofs.Tables.{entries-all}
@@ -16,21 +17,26 @@ use Rattle.lists.specs.declared.Trip.TheVariants.{Concentrate}
 use Rattle.marks.specs.Marks.{rank_in}
 use Rattle.records.specs.Records.{marked_cell, count_in, moved_counts}
 use Rattle.records.proofs.Marked.{marked_cell-rank_in}
+use Rattle.answers.specs.declared.Refusal.{Refusal}
+use Rattle.answers.specs.Answers.{number_of, place_of}
+use Rattle.answertext.specs.Answers.{refused_text}
 use Rattle.jobtext.specs.declared.Job.{Job}
-use Rattle.jobtext.specs.declared.Job.TheVariants.{Ready, Refused}
-use Rattle.jobtext.specs.Verdicts.{CellWord, TextVerdict, is_job, text_verdict}
+use Rattle.jobtext.specs.declared.CellWord.{CellWord}
+use Rattle.jobtext.specs.Verdicts.{TextVerdict, text_verdict}
 use Rattle.jobtext.specs.Lanes.{JobRead}
 use Rattle.jobtext.proofs.Accepted.{Rising, few as few_cells}
 use Rattle.jobtext.proofs.Boards.{lane_in, part_long, part_at, part-marks, Taken, taken, refused_is}
-use Rattle.printing.specs.Buffers.{OutFilled}
+use Rattle.printing.specs.Buffers.{Written, OutFilled}
 use Rattle.jobs.specs.Outputs.{home_of, words_in, job_counts, output_of}
-use Rattle.jobs.specs.Filled.{printed_of, refusal_of}
+use Rattle.jobs.specs.Filled.{printed_of}
 use Rattle.jobs.specs.Inside.{Settled, JobLanes, lanes_text}
 use Rattle.jobs.proofs.Ranks.{home_in, ranked, all-marked, home_value, home_marked}
+use Rattle.jobs.proofs.Filling.{refused_filled}
 use Rattle.jobs.proofs.Solved.{changing, counts_same}
 
 -- the answer of settled lanes is that of the lanes
-pub lanes_text_lem : {s k : ℕ} {w m w' codes' moved' : List ℕ} → JobLanes s k w m → length w' ≡ length w → Settled s w m w' codes' moved' → printed_of s k codes' moved' w' ≡ lanes_text s k w m
+pub lanes_text_lem : {s k : ℕ} {w m w' codes' moved' : List ℕ} → JobLanes s k w m → length w' ≡ length w → Settled s w m w' codes' moved'
+    → printed_of s k codes' moved' w' ≡ lanes_text s k w m
 unfolding lanes_text
 lanes_text_lem {s} {k} {w} {m} {w'} b l z =
     rw (
@@ -40,7 +46,8 @@ lanes_text_lem {s} {k} {w} {m} {w'} b l z =
           (λ r h. get_or-take k w' r 0 h ∙ z.worded r (omega (arith, b.all)) (omega (arith, b.few))),
     )
 
-pub solve_filled : {s k : ℕ} {w m w' codes' moved' : List ℕ} → JobLanes s k w m → length w' ≡ length w → Settled s w m w' codes' moved' → {a : List ℕ} {r : ℕ} {b : List ℕ}
+pub solve_filled : {s k : ℕ} {w m w' codes' moved' : List ℕ} → JobLanes s k w m → length w' ≡ length w → Settled s w m w' codes' moved'
+    → {a : List ℕ} {r : ℕ} {b : List ℕ}
     → OutFilled a (printed_of s k codes' moved' w') r b → OutFilled a (lanes_text s k w m) r b
 solve_filled l e z f = rw (lanes_text_lem l e z) at f
 
@@ -102,7 +109,7 @@ module _ (s : ℕ) (es : List CellWord) (side : is_side s ≡ true) (d : Rising 
       (entries-all (λ r. get_or words (marked_cell marks (cells s) r) 0) (length es) 0 (words_in es) (length-map es (λ e. e.word))
       (λ r h. sym (word_at r h)))
 
-  job_text : lanes_text s (length es) words marks ≡ output_of (is_job s es)
+  job_text : lanes_text s (length es) words marks ≡ output_of (Ok (record { side = s; marked = es }))
   unfolding lanes_text output_of
   job_text = rw (moved_same, words_same)
 
@@ -115,18 +122,16 @@ module _ {v : TextVerdict} {s k : ℕ} {es : List CellWord} {w m : List ℕ} (j 
   taken_text = rw (j.count, j.words_are, j.marks_are, j.is) (job_text s es j.side j.rising)
 
 -- what `run` needs of it
-module _ {w₀ w m₀ m : List ℕ} {job : Job} (text : List ℕ) (z : JobRead (text_verdict text) w₀ w m₀ m job) where
-  pub ready_lanes : (s k : ℕ) → job ≡ Ready s k → JobLanes s k (take (cells s) w) (take (cells s) m)
-  ready_lanes s k e = taken_lanes (taken text z s k e).1
+module _ {w₀ w m₀ m : List ℕ} {r : Result Job Refusal} (text : List ℕ) (z : JobRead (text_verdict text) w₀ w m₀ m r) where
+  pub ready_lanes : (j : Job) → r ≡ Ok j → JobLanes j.side j.marked (take (cells j.side) w) (take (cells j.side) m)
+  ready_lanes j e = taken_lanes (taken text z j e).1
 
-  pub ready_filled : (s k : ℕ) → job ≡ Ready s k → {a : List ℕ} {r : ℕ} {b : List ℕ}
-      → OutFilled a (lanes_text s k (take (cells s) w) (take (cells s) m)) r b → OutFilled a (output_of (text_verdict text)) r b
-  ready_filled s k e f = rw (taken_text (taken text z s k e).1) at f
+  pub ready_filled : (j : Job) → r ≡ Ok j → {a : List ℕ} {n : ℕ} {b : List ℕ}
+      → OutFilled a (lanes_text j.side j.marked (take (cells j.side) w) (take (cells j.side) m)) n b → OutFilled a (output_of (text_verdict text)) n b
+  ready_filled j e f = rw (taken_text (taken text z j e).1) at f
 
-  refused_text : (n p : ℕ) → job ≡ Refused n p → refusal_of job ≡ output_of (text_verdict text)
-  unfolding refusal_of output_of
-  refused_text n p e = rw (e, refused_is text z n p e)
-
-  pub refused-filled : (n p : ℕ) → job ≡ Refused n p → {a : List ℕ} {r : ℕ} {b : List ℕ}
-      → OutFilled a (refusal_of job) r b → OutFilled a (output_of (text_verdict text)) r b
-  refused-filled n p e f = rw (refused_text n p e) at f
+  pub refused_output : (e : Refusal) → r ≡ Err e → {number place : ℕ} → number ≡ number_of e → place ≡ place_of e → {a : List ℕ} {n : ℕ} {b : List ℕ}
+      → length a ≡ 196608
+      → Written a 0 (refused_text number place) n b → OutFilled a (output_of (text_verdict text)) n b
+  unfolding output_of
+  refused_output e q {number} {place} f g l w = rw (refused_is text z e q, ← f, ← g) (refused_filled number place l w)

@@ -7,23 +7,18 @@ use lib.ListN.{length, take}
 use lib.Seq.{length-take-le}
 use Rattle.lists.specs.Lists.{total_moves}
 use Rattle.printing.specs.Buffers.{Written, OutFilled}
-use Rattle.printing.proofs.Filling.{filled, nothing-filled}
-use Rattle.jobtext.specs.declared.Job.{Job}
-use Rattle.jobtext.specs.declared.Job.TheVariants.{Ready, Refused}
+use Rattle.printing.proofs.Filling.{filled}
 use Rattle.answertext.specs.Answers.{answer_text, refused_text}
 use Rattle.answertext.proofs.Room.{answer_fits, refusal_short}
-use Rattle.jobs.specs.Filled.{refusal_of, printed_of}
+use Rattle.jobs.specs.Filled.{printed_of}
 
-pub refused-line : (job : Job) (n p : ℕ) → job ≡ Refused n p → {a : List ℕ} {r : ℕ} {b : List ℕ} → length a ≡ 196608 → Written a 0 (refused_text n p) r b → OutFilled a (refusal_of job) r b
-unfolding refusal_of
-refused-line job n p e l w = rw e (filled (omega (arith, refusal_short n p)) w)
+pub refused_filled : (n p : ℕ) → {a : List ℕ} {r : ℕ} {b : List ℕ} → length a ≡ 196608 → Written a 0 (refused_text n p) r b → OutFilled a (refused_text n p) r b
+refused_filled n p l w = filled (omega (arith, refusal_short n p)) w
 
-pub no_line : (job : Job) (s m : ℕ) → job ≡ Ready s m → (out : List ℕ) → OutFilled out (refusal_of job) 0 out
-unfolding refusal_of
-no_line job s m e out = rw e (nothing-filled out)
-
-pub printed : (s marked n : ℕ) (codes moved words : List ℕ) → n ≡ total_moves s → s ≤ 8 → marked ≤ 4096 → {a : List ℕ} {r : ℕ} {b : List ℕ} → length a ≡ 196608 → length codes ≡ 51
-    → marked ≤ length words → Written a 0 (answer_text (take n codes) (take n moved) (take marked words)) r b → OutFilled a (printed_of s marked codes moved words) r b
+pub printed : (s marked n : ℕ) (codes moved words : List ℕ) → n ≡ total_moves s → s ≤ 8 → marked ≤ 4096 → {a : List ℕ} {r : ℕ} {b : List ℕ}
+    → length a ≡ 196608 → length codes ≡ 51
+    → marked ≤ length words → Written a 0 (answer_text (take n codes) (take n moved) (take marked words)) r b
+    → OutFilled a (printed_of s marked codes moved words) r b
 printed s marked n codes moved words e h k l c m w =
     let all : total_moves s ≤ 51 = omega arith in
     let p : length (take (total_moves s) codes) ≤ 51 = rw (length-take-le (total_moves s) codes (omega arith)) all in

@@ -9,7 +9,7 @@ use Rattle.laws.specs.Sums.{sum}
 use Rattle.laws.proofs.Sums.{sum_cong, one_more}
 use Rattle.laws.proofs.Totals.{sum_zero}
 use Rattle.marks.specs.Marks.{rank_in}
-use Rattle.jobtext.specs.Verdicts.{CellWord}
+use Rattle.jobtext.specs.declared.CellWord.{CellWord}
 use Rattle.jobtext.proofs.Accepted.{Rising, cell_value, absent}
 use Rattle.jobtext.proofs.Boards.{lane_in, mark_at, lane-at}
 use Rattle.jobs.specs.Outputs.{home_of}
@@ -45,7 +45,8 @@ module _ (end : ℕ) where
       ∙ rw (lt-ltb e.index end d.1, marked_all es (suc e.index) d.2) (omega arith)
 
   -- the value of the cell of rank r
-  cell_value_lem : (value : CellWord → ℕ) (es : List CellWord) (next r other : ℕ) → r < length es → Rising next end es → cell_value value es (home_of es r) other ≡ get_or (map value es) r 0
+  cell_value_lem : (value : CellWord → ℕ) (es : List CellWord) (next r other : ℕ) → r < length es → Rising next end es
+      → cell_value value es (home_of es r) other ≡ get_or (map value es) r 0
   unfolding Rising cell_value
   cell_value_lem value [] next r other h d = absurd (omega arith)
   cell_value_lem value (e ∷ es) next zero other h d = rw (eq-eqb e.index e.index refl)

@@ -1,6 +1,6 @@
 -- JobLanes of a board with good marks: rank accepts them, concentrate accepts what rank leaves, and its logs and words are those of the marked cells.
 use Prim.Native.Nat.{ℕ, ◌≤◌, ◌<◌}
-use mathlib.Core.Path.{◌≡◌, ap, ◌∙◌}
+use mathlib.Core.Path.{◌≡◌, refl, ap, ◌∙◌}
 use mathlib.Core.Bool.{true}
 use mathlib.Core.List.{List, []}
 use native.Mathlib.Omega.{arith}
@@ -8,12 +8,16 @@ use borrow.Author.Tests.{eq-eqb}
 use lib.ListN.{length, get_or, take, length-append, length-drop}
 use lib.Seq.{take_at}
 use Rattle.laws.proofs.Tables.{entry_at, length-entries}
+use Rattle.std.specs.Prelude.{Result, Ok, Err, IsOk}
 use Rattle.answers.specs.declared.Answer.{Answer}
+use Rattle.answers.specs.declared.Moves.{Moves}
+use Rattle.answers.specs.declared.Refusal.{Refusal}
+use Rattle.answers.proofs.Judging.{refuses}
 use Rattle.array.specs.Cells.{is_side, cells}
 use Rattle.runs.specs.Runs.{codes as codes_of}
 use Rattle.lists.specs.declared.Trip.TheVariants.{Concentrate}
 use Rattle.lists.specs.Lists.{total_moves, concentrate_runs, prefix_sum_runs}
-use Rattle.answers.specs.Answers.{verdict, accepted_by}
+use Rattle.answers.specs.Answers.{verdict, accepted_by, answer_of}
 use Rattle.answers.specs.Entry.{Entry, in_front}
 use Rattle.array.proofs.Board.{side_known}
 use Rattle.lists.proofs.Counts.{prefix_sum-length, concentrate_length}
@@ -61,6 +65,11 @@ module _ (s : ℕ) (side : is_side s ≡ true) (marks : List ℕ) (long : length
         aims2 = z.aims2;
       }
 
+-- what is not refused is accepted
+accepted_ok : (r : Result Moves Refusal) → (answer_of r).number ≡ 0 → IsOk r
+accepted_ok (Ok n) h = refl
+accepted_ok (Err e) h = absurd (refuses e h)
+
 -- a whole run of concentrate behind rank
 module _ {s : ℕ} {w m a w₂ m₂ a₂ codes moved : List ℕ} (b : JobBoard s w m a w₂ m₂ a₂ codes moved) where
   long : length m ≡ cells s
@@ -75,30 +84,43 @@ module _ {s : ℕ} {w m a w₂ m₂ a₂ codes moved : List ℕ} (b : JobBoard s
   marks_good : GoodMarks s m
   marks_good = record { side = b.side; size = long; good = b.marked }
 
-  concentrate_takes : (codes' : List ℕ) {r : Answer} → length codes' ≡ 51
-      → r ≡ verdict (full_cases Concentrate s (sizes_of w w₂ m₂ a₂) m (ranks s m) (length codes') (length moved)) (accepted_by (concentrate_runs s)) → r.number ≡ 0
-  concentrate_takes codes' c e =
-      let end = accepted_by (concentrate_runs s) in
-      ap (λ (x : Answer). x.number)
-      (e ∙ concentrate_accepts s b.side m long b.marked w a w₂ m₂ a₂ (length codes') (length moved) end b.sized (omega arith) (omega (arith, b.moved_room)))
-
   -- a log keeps its length
   log_long : (numbers log : List ℕ) → length numbers ≤ length log → length (in_front numbers log) ≡ length log
   log_long numbers log h = rw (length-append, length-drop) (omega arith)
 
-  pub settled : {r₁ r₂ : Answer} {K₁ K₂ : Type 0} {a' codes' w' codes'' moved'' : List ℕ} {T : ℕ → Cell}
-      → Entry (rank_cases s m (length a) (length codes)) (prefix_sum_runs s) (a' ≡ ranks s m) (codes' ≡ in_front (codes_of (prefix_sum_runs s)) codes) K₁ r₁
-      → Entry (full_cases Concentrate s (sizes_of w w₂ m₂ a₂) m a' (length codes') (length moved)) (concentrate_runs s) (Stood Concentrate s (total_moves s) w m a' T)
-      ((codes'' ≡ in_front (codes_of (concentrate_runs s)) codes') × (moved'' ≡ in_front (moved_counts Concentrate s (total_moves s) m a') moved)) K₂ r₂
-      → ((r : ℕ) → get_or w' r 0 ≡ (T r).front.word) → Settled s w m w' codes'' moved''
-  settled {r₁} {r₂} {K₁} {K₂} {a'} {codes'} z₁ z₂ words =
-      let ranked = rank-takes marks_good (length a) (length codes) b.sized.aims (omega (arith, b.codes_room)) z₁.answer in
-      let room : length (codes_of (prefix_sum_runs s)) ≤ length codes = omega (arith, codes-length (prefix_sum_runs s), prefix_sum-length s, few, b.codes_room) in
-      let c : length codes' ≡ 51 = ap length (z₁.logs ranked) ∙ log_long (codes_of (prefix_sum_runs s)) codes room ∙ b.codes_room in
-      let z = rw (z₁.lanes ranked) at z₂ in
-      let n = concentrate_takes codes' c z.answer in
-      record {
-        coded = ap (take (total_moves s)) (z.logs n).0 ∙ take_at (codes_of (concentrate_runs s)) _ (total_moves s) (codes-length (concentrate_runs s) ∙ concentrate_length s);
-        counted = ap (take (total_moves s)) (z.logs n).1 ∙ take_at (moved_counts Concentrate s (total_moves s) m []) _ (total_moves s) (length-entries _ 0 (total_moves s));
-        worded = λ r h u. words r ∙ word_there s (side_known s b.side).least w m (ranks s m) long good (z.lanes n) r h u;
-      }
+  module _ (r₁ : Result Moves Refusal) {a' codes' : List ℕ} {K₁ : Type 0}
+      (z₁ : Entry (rank_cases s m (length a) (length codes)) (prefix_sum_runs s) (a' ≡ ranks s m) (codes' ≡ in_front (codes_of (prefix_sum_runs s)) codes) K₁ (answer_of r₁)) where
+    ranked : (answer_of r₁).number ≡ 0
+    ranked = rank-takes marks_good (length a) (length codes) b.sized.aims (omega (arith, b.codes_room)) z₁.answer
+
+    -- rank accepts
+    pub rank_accepted : IsOk r₁
+    rank_accepted = accepted_ok r₁ ranked
+
+    codes_long : length codes' ≡ 51
+    codes_long =
+        let room : length (codes_of (prefix_sum_runs s)) ≤ length codes = omega (arith, codes-length (prefix_sum_runs s), prefix_sum-length s, few, b.codes_room) in
+        ap length (z₁.logs ranked) ∙ log_long (codes_of (prefix_sum_runs s)) codes room ∙ b.codes_room
+
+    module _ (r₂ : Result Moves Refusal) {codes'' moved'' : List ℕ} {T : ℕ → Cell} {K₂ : Type 0}
+        (z₂ : Entry (full_cases Concentrate s (sizes_of w w₂ m₂ a₂) m a' (length codes') (length moved)) (concentrate_runs s) (Stood Concentrate s (total_moves s) w m a' T)
+        ((codes'' ≡ in_front (codes_of (concentrate_runs s)) codes') × (moved'' ≡ in_front (moved_counts Concentrate s (total_moves s) m a') moved)) K₂ (answer_of r₂)) where
+      taken : (answer_of r₂).number ≡ 0
+      taken =
+          let end = accepted_by (concentrate_runs s) in
+          let z = rw (z₁.lanes ranked) at z₂ in
+          ap (λ (x : Answer). x.number)
+          (z.answer ∙ concentrate_accepts s b.side m long b.marked w a w₂ m₂ a₂ (length codes') (length moved) end b.sized (omega (arith, codes_long)) (omega (arith, b.moved_room)))
+
+      -- and so does concentrate
+      pub concentrate_accepted : IsOk r₂
+      concentrate_accepted = accepted_ok r₂ taken
+
+      pub settled : (words : List ℕ) → ((r : ℕ) → get_or words r 0 ≡ (T r).front.word) → {w' : List ℕ} → w' ≡ words → Settled s w m w' codes'' moved''
+      settled words there e =
+          let z = rw (z₁.lanes ranked) at z₂ in
+          record {
+            coded = ap (take (total_moves s)) (z.logs taken).0 ∙ take_at (codes_of (concentrate_runs s)) _ (total_moves s) (codes-length (concentrate_runs s) ∙ concentrate_length s);
+            counted = ap (take (total_moves s)) (z.logs taken).1 ∙ take_at (moved_counts Concentrate s (total_moves s) m []) _ (total_moves s) (length-entries _ 0 (total_moves s));
+            worded = λ r h u. ap (λ (l : List ℕ). get_or l r 0) e ∙ there r ∙ word_there s (side_known s b.side).least w m (ranks s m) long good (z.lanes taken) r h u;
+          }

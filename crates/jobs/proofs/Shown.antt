@@ -3,7 +3,7 @@ use Prim.Native.String.{String}
 use mathlib.Core.Path.{◌≡◌, refl}
 use mathlib.Core.List.{List, [], ◌∷◌, map}
 use Prim.Native.Nat.{ℕ}
-use Rattle.texts.specs.Bytes.{bytes, same}
+use Rattle.texts.specs.Bytes.{bytes}
 use Rattle.texts.specs.Numbers.{digits_from, number_of}
 use Rattle.texts.specs.Lines.{bytes_before, first_field, second_field, with_byte, lines_of}
 use Rattle.printing.specs.Printed.{digits, line, rows}
@@ -13,7 +13,7 @@ use Rattle.answertext.specs.Answers.{kind_text, way_text, header, move_line, all
 use Rattle.jobs.specs.Outputs.{output_of}
 
 unfoldable pub output_for : String → List ℕ
-unfolding output_of text_verdict job_from cells_from also lines_of with_byte mark_line side_of first_field second_field bytes_before number_of digits_from same log_text header rows move_row move_line record_row record_line all_line totals_of column_sum line kind_text way_text digits refused_text
+unfolding output_of text_verdict job_from cells_from also lines_of with_byte mark_line side_of first_field second_field bytes_before number_of digits_from log_text header rows move_row move_line record_row record_line all_line totals_of column_sum line kind_text way_text digits refused_text
 output_for t = output_of (text_verdict (bytes t))
 
 pub the_job :

@@ -12,7 +12,7 @@ use Rattle.laws.proofs.Tables.{length-entries, entry_at, entries-all}
 use Rattle.lists.specs.Lists.{total_moves}
 use Rattle.lists.proofs.Counts.{concentrate_length}
 use Rattle.travel.specs.Travel.{stands}
-use Rattle.jobtext.specs.Verdicts.{CellWord}
+use Rattle.jobtext.specs.declared.CellWord.{CellWord}
 use Rattle.jobs.specs.Outputs.{home_of, moved_in, job_counts}
 
 -- how many of b records change cell in move k of concentrate, where record r started in cell home r

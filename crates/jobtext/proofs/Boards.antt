@@ -1,19 +1,13 @@
 -- The lanes of a job that was read: what they hold, and the part of them that is its board's.
-use Prim.Native.Nat.{ℕ, zero, suc, ◌*◌, ◌≤◌, ◌<◌}
-use mathlib.Core.Path.{◌≡◌, refl, sym, ap, ◌∙◌}
-use mathlib.Core.Bool.{Bool, true, false, cond}
-use mathlib.Core.List.{List, [], ◌∷◌}
-use native.Mathlib.Omega.{arith}
-use lib.ListN.{length, get_or, set, take, replicate, length-replicate, length-set}
-use lib.Seq.{length-take-le, get_or-take, take-set-lt}
-use lib.Dec.{eqb}
-use mir.Syntax.{w64}
-use mir.Val.{Fits}
+use Rattle.std.proofs.Common.{◌≡◌, ℕ, zero, suc, ◌*◌, ◌≤◌, ◌<◌, Bool, true, false, cond, List, [], ◌∷◌, Result, Ok, Err, length, get_or, set, take, replicate, refl, sym, ap, ◌∙◌, eqb, arith, length-set, length-take-le, Fits, w64}
+use lib.ListN.{length-replicate}
+use lib.Seq.{get_or-take, take-set-lt}
 use Rattle.array.specs.Cells.{is_side, cells}
 use Rattle.array.proofs.Board.{side_known}
+use Rattle.answers.specs.declared.Refusal.{Refusal}
 use Rattle.jobtext.specs.declared.Job.{Job}
-use Rattle.jobtext.specs.declared.Job.TheVariants.{Ready, Refused}
-use Rattle.jobtext.specs.Verdicts.{CellWord, TextVerdict, is_job, no_job, text_verdict}
+use Rattle.jobtext.specs.declared.CellWord.{CellWord}
+use Rattle.jobtext.specs.Verdicts.{TextVerdict, text_verdict}
 use Rattle.jobtext.specs.Lanes.{with_cells, lane_of, job_of, JobRead}
 use Rattle.jobtext.proofs.Cells.{square_fits, cells_fit}
 use Rattle.jobtext.proofs.Accepted.{Rising, Known, known, cell_value, table}
@@ -88,59 +82,55 @@ module _ (s : ℕ) (es : List CellWord) (side : is_side s ≡ true) (d : Rising 
 
 -- a job of side s with k marked cells es that was read into lanes
 pub record Taken (v : TextVerdict) (s k : ℕ) (es : List CellWord) (w m : List ℕ) : Type 0 where
-  pub is : v ≡ is_job s es
+  pub is : v ≡ Ok (record { side = s; marked = es })
   pub count : k ≡ length es
   pub words_are : w ≡ lane_in (λ e. e.word) es
   pub marks_are : m ≡ lane_in (λ e. 1) es
   pub side : is_side s ≡ true
   pub rising : Rising 0 (cells s) es
 
-module _ {w₀ w m₀ m : List ℕ} {job : Job} where
-  taken_of : (v : TextVerdict) → Known v → JobRead v w₀ w m₀ m job → (s k : ℕ) → job ≡ Ready s k → (es : List CellWord) × Taken v s k es w m
+module _ {w₀ w m₀ m : List ℕ} {r : Result Job Refusal} where
+  taken_of : (v : TextVerdict) → Known v → JobRead v w₀ w m₀ m r → (j : Job) → r ≡ Ok j → (es : List CellWord) × Taken v j.side j.marked es w m
   unfolding job_of lane_of
-  taken_of (is_job s' es) n z s k e =
-      let p : s' ≡ s = cc (z.answer, e) in
-      let q : length es ≡ k = cc (z.answer, e) in
-      (es, rw (← p, ← q) (record { is = refl; count = refl; words_are = z.words_are; marks_are = z.marks_are; side = n.0; rising = n.1 }))
-  taken_of (no_job a b) n z s k e = let x : ◌≡◌ {A = ℕ} 0 1 = cc (z.answer, e) in absurd (omega arith)
+  taken_of (Ok t) n z j e =
+      let q : j ≡ record { side = t.side; marked = length t.marked } = cc (z.answer, e) in
+      (t.marked, rw q (record { is = refl; count = refl; words_are = z.words_are; marks_are = z.marks_are; side = n.0; rising = n.1 }))
+  taken_of (Err f) n z j e = cc (z.answer, e)
 
-  refused_of : (v : TextVerdict) → JobRead v w₀ w m₀ m job → (n p : ℕ) → job ≡ Refused n p → v ≡ no_job n p
+  refused_of : (v : TextVerdict) → JobRead v w₀ w m₀ m r → (e : Refusal) → r ≡ Err e → v ≡ Err e
   unfolding job_of
-  refused_of (is_job s es) z n p e = let x : ◌≡◌ {A = ℕ} 0 1 = cc (z.answer, e) in absurd (omega arith)
-  refused_of (no_job a b) z n p e =
-      let x : a ≡ n = cc (z.answer, e) in
-      let y : b ≡ p = cc (z.answer, e) in
-      rw (x, y)
+  refused_of (Ok t) z e q = cc (z.answer, q)
+  refused_of (Err f) z e q = let x : f ≡ e = cc (z.answer, q) in rw x
 
-  module _ (text : List ℕ) (z : JobRead (text_verdict text) w₀ w m₀ m job) where
-    pub refused_is : (n p : ℕ) → job ≡ Refused n p → text_verdict text ≡ no_job n p
-    refused_is n p e = refused_of (text_verdict text) z n p e
+  module _ (text : List ℕ) (z : JobRead (text_verdict text) w₀ w m₀ m r) where
+    pub refused_is : (e : Refusal) → r ≡ Err e → text_verdict text ≡ Err e
+    refused_is e q = refused_of (text_verdict text) z e q
 
-    module _ (s k : ℕ) (e : job ≡ Ready s k) where
-      pub taken : (es : List CellWord) × Taken (text_verdict text) s k es w m
-      taken = taken_of (text_verdict text) (known text) z s k e
+    module _ (j : Job) (e : r ≡ Ok j) where
+      pub taken : (es : List CellWord) × Taken (text_verdict text) j.side j.marked es w m
+      taken = taken_of (text_verdict text) (known text) z j e
 
-      side : is_side s ≡ true
+      side : is_side j.side ≡ true
       side = taken.1.side
 
-      small : s ≤ 8
-      small = (side_known s side).most
+      small : j.side ≤ 8
+      small = (side_known j.side side).most
 
-      pub ready_square : Fits w64 (s * s)
-      ready_square = square_fits s small
+      pub ready_square : Fits w64 (j.side * j.side)
+      ready_square = square_fits j.side small
 
-      pub ready_cells : Fits w64 (s * s * (s * s))
-      ready_cells = cells_fit s small
+      pub ready_cells : Fits w64 (j.side * j.side * (j.side * j.side))
+      ready_cells = cells_fit j.side small
 
       -- the lanes have room for the board
-      pub words_room : s * s * (s * s) ≤ length w
-      words_room = omega (arith, (side_known s side).cells_few, ap length taken.1.words_are, lane_long (λ e. e.word) taken.0)
+      pub words_room : j.side * j.side * (j.side * j.side) ≤ length w
+      words_room = omega (arith, (side_known j.side side).cells_few, ap length taken.1.words_are, lane_long (λ e. e.word) taken.0)
 
-      pub marks_room : s * s * (s * s) ≤ length m
-      marks_room = omega (arith, (side_known s side).cells_few, ap length taken.1.marks_are, lane_long (λ e. 1) taken.0)
+      pub marks_room : j.side * j.side * (j.side * j.side) ≤ length m
+      marks_room = omega (arith, (side_known j.side side).cells_few, ap length taken.1.marks_are, lane_long (λ e. 1) taken.0)
 
-      pub words-part : s * s * (s * s) ≡ length (take (s * s * (s * s)) w)
+      pub words-part : j.side * j.side * (j.side * j.side) ≡ length (take (j.side * j.side * (j.side * j.side)) w)
       words-part = sym (length-take-le _ w words_room)
 
-      pub marks-part : s * s * (s * s) ≡ length (take (s * s * (s * s)) m)
+      pub marks-part : j.side * j.side * (j.side * j.side) ≡ length (take (j.side * j.side * (j.side * j.side)) m)
       marks-part = sym (length-take-le _ m marks_room)

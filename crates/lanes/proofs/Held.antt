@@ -15,10 +15,9 @@ use Rattle.array.specs.declared.moves.Way.{Way}
 use Rattle.array.specs.Cells.{is_side, groups, cells, partner, is_board}
 use Rattle.array.proofs.Board.{group_of, place_of, side_known}
 use Rattle.light.specs.Lane.{swapped_lane}
-use Rattle.sums.specs.declared.Combining.{Combining}
 use Rattle.lanes.specs.declared.Joining.{Joining}
 use Rattle.lanes.specs.Machine.{State, all, at, load, unload, value_at}
-use Rattle.sums.specs.Sums.{cellwise, combine_of, combined_words}
+use Rattle.sums.specs.Sums.{cellwise, combined_words}
 use Rattle.lanes.specs.Runs.{running, is_run, ran_words}
 use Rattle.lanes.specs.Inside.{FitsBoard, HoldsWords, Lane, Moved, swapped_state}
 use Rattle.lanes.proofs.Agreeing.{all_same}
@@ -120,9 +119,9 @@ cellwise-lane s f F {l} e z = record {
   };
 }
 
-pub combined_lane : (s : ℕ) (how : Combining) {l m l' : List ℕ} {σ τ : State ℕ} → l' ≡ combined_words how l m → Lane s l σ → Lane s m τ
-    → Lane s l' (λ c d a b. combine_of how (σ c d a b) (τ c d a b))
-combined_lane s how {l} {m} {l'} {σ} {τ} q x y =
-    let is : l' ≡ cellwise (λ i own. combine_of how own (get_or m i 0)) l = rw (eq-eqb (length l) (length m) (x.board.whole ∙ sym y.board.whole)) at q in
-    rw is (cellwise-lane s (λ i own. combine_of how own (get_or m i 0)) (λ c d a b own. combine_of how own (τ c d a b))
-    (λ c d a b own hc hd ha hb. ap (combine_of how own) (y.holds.is c d a b hc hd ha hb)) x)
+pub combined_lane : (s : ℕ) (op : ℕ → ℕ → ℕ) {l m l' : List ℕ} {σ τ : State ℕ} → l' ≡ combined_words op l m → Lane s l σ → Lane s m τ
+    → Lane s l' (λ c d a b. op (σ c d a b) (τ c d a b))
+combined_lane s op {l} {m} {l'} {σ} {τ} q x y =
+    let is : l' ≡ cellwise (λ i own. op own (get_or m i 0)) l = rw (eq-eqb (length l) (length m) (x.board.whole ∙ sym y.board.whole)) at q in
+    rw is (cellwise-lane s (λ i own. op own (get_or m i 0)) (λ c d a b own. op own (τ c d a b))
+    (λ c d a b own hc hd ha hb. ap (op own) (y.holds.is c d a b hc hd ha hb)) x)

@@ -8,7 +8,7 @@ use native.Mathlib.Omega.{arith}
 use lib.Dec.{ltb}
 use lib.ListN.{length, length-append, length-replicate}
 use borrow.Author.Tests.{ltb-true, ltb-false, lt-ltb, le-ltb}
-use Rattle.runs.specs.declared.Found.TheVariants.{Step}
+use Rattle.std.specs.Prelude.{Some}
 use Rattle.runs.specs.Runs.{moves, step_in}
 use Rattle.runs.proofs.Steps.{step-here, step_next}
 use Rattle.lanes.specs.Machine.{State, Stage, make, ran, all, made, stage_runs}
@@ -36,7 +36,7 @@ after-all-moves s (t ∷ ts) σ =
 pub record OneMove {R A : Type 0} (s : ℕ) (ts : List (Stage R A)) (k : ℕ) (σ : State R) : Type 0 where
   pub stage : Stage R A
   pub number : ℕ
-  pub listed : step_in (moves (stage_runs ts)) k ≡ Step stage.run.step
+  pub listed : step_in (moves (stage_runs ts)) k ≡ Some stage.run.step
   pub hands : (c d a b : ℕ) → handed_on s ts k σ c d a b ≡ some (stage.send (after_moves s ts k σ c d a b))
   pub makes : after_moves s ts (suc k) σ ≡ make s stage.run.step stage.send (stage.rule number) (after_moves s ts k σ)
 

@@ -7,17 +7,15 @@ use native.Mathlib.Nat.{suc-mul, mul-one}
 use native.Mathlib.Numerals.{add-one}
 use lib.Arith.{digits_div, digits_mod, digits_lt}
 use lib.Dec.{ltb}
-use borrow.Author.Tests.{ltb-true, lt-ltb, le-ltb}
+use borrow.Author.Tests.{ltb-true}
 use Rattle.laws.proofs.Numbers.{square_grows}
 use Rattle.array.specs.declared.moves.Way.{Way}
 use Rattle.array.specs.declared.moves.Way.TheVariants.{Right, Left, Up, Down}
 use Rattle.array.specs.Cells.{groups, row, column}
 use Rattle.array.proofs.Board.{place_is, row_in, column_in}
-use Rattle.lanes.specs.declared.steps.LinePlaces.{LinePlaces}
-use Rattle.lanes.specs.declared.steps.Source.{Source}
-use Rattle.lanes.specs.declared.steps.Source.TheVariants.{At, Nothing}
+use Rattle.std.specs.Prelude.{Some, None}
 use Rattle.lanes.specs.Stages.{position}
-use Rattle.lanes.specs.Inside.{Group, source_of, behind_of, place_gap, line_gap, order_of, Places, Apart, no_line, line_from, line_at, LineIn}
+use Rattle.lanes.specs.Inside.{Group, Source, source_of, behind_of, place_gap, line_gap, order_of, Places, Apart, line_from, line_at, LinesIn}
 
 -- the place at position p of line k, and the line of a place
 abbrev pub spot : ℕ → Way → ℕ → ℕ → ℕ
@@ -107,14 +105,14 @@ position_in i Down h l = row_in h i l
 
 -- what is known of the position behind another one, if there is one
 abbrev Each : (ℕ → Type 0) → Source → Type 0
-Each P (At q) = P q
-Each P Nothing = Unit {0}
+Each P (Some q) = P q
+Each P None = Unit {0}
 
-known_before : (s p : ℕ) (t : Bool) → p < s → ltb 0 p ≡ t → Each (λ q. (q < s) × (s - 1 - p < s - 1 - q)) (cond t (At (p - 1)) Nothing)
+known_before : (s p : ℕ) (t : Bool) → p < s → ltb 0 p ≡ t → Each (λ q. (q < s) × (s - 1 - p < s - 1 - q)) (cond t (Some (p - 1)) None)
 known_before s p true h e = let u = ltb-true 0 p e in (omega arith, omega arith)
 known_before s p false h e = tt
 
-known_after : (s p : ℕ) (t : Bool) → ltb (p + 1) s ≡ t → Each (λ q. (q < s) × (p < q)) (cond t (At (p + 1)) Nothing)
+known_after : (s p : ℕ) (t : Bool) → ltb (p + 1) s ≡ t → Each (λ q. (q < s) × (p < q)) (cond t (Some (p + 1)) None)
 known_after s p true e = let u = ltb-true (p + 1) s e in (omega arith, omega arith)
 known_after s p false e = tt
 
@@ -126,48 +124,44 @@ behind_known s Down p h = known_before s p _ h refl
 
 -- what comes to a place comes along its line
 abbrev pub placed : (ℕ → ℕ) → Source → Source
-placed f (At q) = At (f q)
-placed f Nothing = Nothing
+placed f (Some q) = Some (f q)
+placed f None = None
 
 pub source_is : (s i : ℕ) (w : Way) → source_of s w i ≡ placed (spot s w (line_number w (row s i) (column s i))) (behind_of s w (position w (row s i) (column s i)))
 source_is s i Right = go (ltb 0 (column s i)) refl
   where
-    go : (t : Bool) → ltb 0 (column s i) ≡ t → cond t (At (i - 1)) Nothing ≡ placed (spot s Right (row s i)) (cond t (At (column s i - 1)) Nothing)
-    go true e = ap {B = Source} (λ z. At z) (omega (arith, place_is s i, mul-one (column s i - 1), ltb-true 0 (column s i) e))
+    go : (t : Bool) → ltb 0 (column s i) ≡ t → cond t (Some (i - 1)) None ≡ placed (spot s Right (row s i)) (cond t (Some (column s i - 1)) None)
+    go true e = ap {B = Source} (λ z. Some z) (omega (arith, place_is s i, mul-one (column s i - 1), ltb-true 0 (column s i) e))
     go false e = refl
 source_is s i Left = go (ltb (column s i + 1) s)
   where
-    go : (t : Bool) → cond t (At (i + 1)) Nothing ≡ placed (spot s Left (row s i)) (cond t (At (column s i + 1)) Nothing)
-    go true = ap {B = Source} (λ z. At z) (omega (arith, place_is s i, mul-one (column s i + 1)))
+    go : (t : Bool) → cond t (Some (i + 1)) None ≡ placed (spot s Left (row s i)) (cond t (Some (column s i + 1)) None)
+    go true = ap {B = Source} (λ z. Some z) (omega (arith, place_is s i, mul-one (column s i + 1)))
     go false = refl
 source_is s i Up = go (ltb (row s i + 1) s)
   where
     again : (row s i + 1) * s ≡ suc (row s i) * s
     again = rw add-one
 
-    go : (t : Bool) → cond t (At (i + s)) Nothing ≡ placed (spot s Up (column s i)) (cond t (At (row s i + 1)) Nothing)
-    go true = ap {B = Source} (λ z. At z) (omega (arith, place_is s i, mul-one (column s i), suc-mul (row s i) s, again))
+    go : (t : Bool) → cond t (Some (i + s)) None ≡ placed (spot s Up (column s i)) (cond t (Some (row s i + 1)) None)
+    go true = ap {B = Source} (λ z. Some z) (omega (arith, place_is s i, mul-one (column s i), suc-mul (row s i) s, again))
     go false = refl
 source_is s i Down = go (ltb 0 (row s i)) refl (row s i) refl
   where
-    go : (t : Bool) → ltb 0 (row s i) ≡ t → (a : ℕ) → row s i ≡ a → cond t (At (i - s)) Nothing ≡ placed (spot s Down (column s i)) (cond t (At (row s i - 1)) Nothing)
+    go : (t : Bool) → ltb 0 (row s i) ≡ t → (a : ℕ) → row s i ≡ a → cond t (Some (i - s)) None ≡ placed (spot s Down (column s i)) (cond t (Some (row s i - 1)) None)
     go false e a f = refl
     go true e zero f = absurd (omega (arith, f, ltb-true 0 (row s i) e))
     go true e (suc a) f =
         let g : row s i - 1 ≡ a = omega (arith, f) in
-        ap {B = Source} (λ z. At z) (omega (arith, place_is s i, mul-one (column s i), ap (λ (n : ℕ). n * s) f, ap (λ (n : ℕ). n * s) g, suc-mul a s))
+        ap {B = Source} (λ z. Some z) (omega (arith, place_is s i, mul-one (column s i), ap (λ (n : ℕ). n * s) f, ap (λ (n : ℕ). n * s) g, suc-mul a s))
 
 -- a position behind another one
 pub record Behind (s : ℕ) (w : Way) (p q : ℕ) : Type 0 where
   pub inside : q < s
   pub later : order_of w s p < order_of w s q
 
-pub behind_is : (s : ℕ) (w : Way) (p q : ℕ) → p < s → behind_of s w p ≡ At q → Behind s w p q
+pub behind_is : (s : ℕ) (w : Way) (p q : ℕ) → p < s → behind_of s w p ≡ Some q → Behind s w p q
 behind_is s w p q h e = let z = rw e at (behind_known s w p h) in record { inside = z.0; later = z.1 }
-
--- a group of the board
-pub a_group : {s : ℕ} → 1 ≤ s → s ≤ 8 → Group s (groups s)
-a_group h h' = record { least = h; most = h'; whole = refl }
 
 -- the places at a position, and those behind them
 module _ {s n : ℕ} (g : Group s n) where
@@ -190,40 +184,19 @@ module _ {s n : ℕ} (g : Group s n) where
   }
 
   -- as the code works them out
-  pub places_ready : (w : Way) (p q next apart : ℕ) → p < s → behind_of s w p ≡ At q → next ≡ place_gap s w → apart ≡ line_gap s w
+  pub places_ready : (w : Way) (p q next apart : ℕ) → p < s → behind_of s w p ≡ Some q → next ≡ place_gap s w → apart ≡ line_gap s w
       → Places (p * next) apart s n × (Places (q * next) apart s n × Apart (p * next) (q * next) apart s)
   places_ready w p q next apart h e x y =
       let b = behind_is s w p q h e in
       rw (x, y) (places w p h, (places w q b.inside, places_apart w p q h b.inside (λ z. omega (arith, b.later, ap (order_of w s) z))))
 
-  nowhere : LineIn no_line n
-  nowhere =
-      let none : Places 0 1 0 n = record { few = rw g.whole (square_grows g.most); on = omega arith; inside = λ k u. absurd (omega arith) } in
-      record { written = none; heard = none; apart = record { are = λ j k u u' x. absurd (omega arith) } }
-
-  pub line_in_group : (w : Way) (p : ℕ) → LineIn (line_at s w p) n
+  pub line_in_group : (w : Way) (p : ℕ) → LinesIn (line_at s w p) n
   line_in_group w p = go (ltb p s) refl
     where
-      from : (b : Source) → p < s → behind_of s w p ≡ b → LineIn (line_from s w p b) n
-      from (At q) h e = let z = places_ready w p q _ _ h e refl refl in record { written = z.0; heard = z.1.0; apart = z.1.1 }
-      from Nothing h e = nowhere
+      from : (b : Source) → p < s → behind_of s w p ≡ b → LinesIn (line_from s w p b) n
+      from (Some q) h e = let z = places_ready w p q _ _ h e refl refl in record { written = z.0; heard = z.1.0; apart = z.1.1 }
+      from None h e = tt
 
-      go : (t : Bool) → ltb p s ≡ t → LineIn (cond t (line_from s w p (behind_of s w p)) no_line) n
+      go : (t : Bool) → ltb p s ≡ t → LinesIn (cond t (line_from s w p (behind_of s w p)) None) n
       go true e = from (behind_of s w p) (ltb-true p s e) refl
-      go false e = nowhere
-
-  -- a product that fits
-  pub place_gap_few : (w : Way) (p next : ℕ) → p < s → next ≡ place_gap s w → p * next < 64
-  place_gap_few w p next h e = rw e (omega (arith, spot_in {k = 0} g.least h w, square_grows g.most))
-
--- the line of a position, as the code works it out
-module _ (s : ℕ) (w : Way) (p : ℕ) where
-  pub line_found : (q next apart : ℕ) (from : Source) → p < s → from ≡ behind_of s w p → from ≡ At q → next ≡ place_gap s w → apart ≡ line_gap s w
-      → ◌≡◌ {A = LinePlaces} (record { to = p * next; from = q * next; apart = apart; count = s }) (line_at s w p)
-  line_found q next apart from h b e x y = rw (lt-ltb p s h, ← b, e, x, y)
-
-  pub line_missed : (from : Source) → p < s → from ≡ behind_of s w p → from ≡ Nothing → no_line ≡ line_at s w p
-  line_missed from h b e = rw (lt-ltb p s h, ← b, e)
-
-  pub line-off : s ≤ p → no_line ≡ line_at s w p
-  line-off h = rw (le-ltb p s h)
+      go false e = tt

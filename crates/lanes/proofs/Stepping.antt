@@ -17,25 +17,24 @@ use Rattle.array.specs.declared.moves.Way.{Way}
 use Rattle.array.specs.declared.moves.Way.TheVariants.{Right, Left, Up, Down}
 use Rattle.array.specs.declared.moves.Move.TheVariants.{Electronic}
 use Rattle.array.specs.Cells.{groups, row, column}
-use Rattle.lanes.specs.declared.Joining.{Joining}
 use Rattle.lanes.specs.declared.steps.JoinRule.{JoinRule}
-use Rattle.lanes.specs.declared.steps.Source.TheVariants.{At, Nothing}
-use Rattle.lanes.specs.Machine.{State, Stage, receive, from_before, from_after, ran}
-use Rattle.lanes.specs.Stages.{position, steps_on}
+use Rattle.std.specs.Prelude.{Some, None}
+use Rattle.lanes.specs.Machine.{State, receive, from_before, from_after}
+use Rattle.lanes.specs.Stages.{position}
 use Rattle.lanes.specs.Inside.{Moved, source_of, word_at, next_of, stepped, stepped_all}
-use Rattle.lanes.specs.Runs.{rule_of, running}
+use Rattle.lanes.specs.Runs.{rule_of}
 use Rattle.lanes.proofs.Coordinates.{place<}
 
 -- what comes to a place is what the machine's cell receives
 module _ (s : ℕ) (l : List ℕ) (σ : ℕ → ℕ → ℕ) (holds : (a b : ℕ) → a < s → b < s → get_or l (a * s + b) 0 ≡ σ a b) (a b : ℕ) (ha : a < s) (hb : b < s) where
-  from_before_lem : (i : ℕ) (f : ℕ → ℕ) (p : ℕ) → (0 < p → get_or l i 0 ≡ f (p - 1)) → word_at l (cond (ltb 0 p) (At i) Nothing) ≡ from_before f p
+  from_before_lem : (i : ℕ) (f : ℕ → ℕ) (p : ℕ) → (0 < p → get_or l i 0 ≡ f (p - 1)) → word_at l (cond (ltb 0 p) (Some i) None) ≡ from_before f p
   from_before_lem i f zero h = refl
   from_before_lem i f (suc p) h = rw (lt-ltb 0 (suc p) (omega arith)) (ap {B = Option ℕ} (λ x. some x) (h (omega arith) ∙ ap f (omega arith)))
 
-  from-after : (i : ℕ) (f : ℕ → ℕ) (p : ℕ) → (p + 1 < s → get_or l i 0 ≡ f (suc p)) → word_at l (cond (ltb (p + 1) s) (At i) Nothing) ≡ from_after s f p
+  from-after : (i : ℕ) (f : ℕ → ℕ) (p : ℕ) → (p + 1 < s → get_or l i 0 ≡ f (suc p)) → word_at l (cond (ltb (p + 1) s) (Some i) None) ≡ from_after s f p
   from-after i f p h = rw add-one (go (ltb (suc p) s) refl)
     where
-      go : (t : Bool) → ltb (suc p) s ≡ t → word_at l (cond t (At i) Nothing) ≡ cond t (some (f (suc p))) none
+      go : (t : Bool) → ltb (suc p) s ≡ t → word_at l (cond t (Some i) None) ≡ cond t (some (f (suc p))) none
       go true e = ap {B = Option ℕ} (λ x. some x) (h (omega (arith, ltb-true (suc p) s e)))
       go false e = refl
 
@@ -90,13 +89,3 @@ step_moved s w r l l' g all_in z = record {
         ∙ ap (rule_of r.joining r.front (position w a b) (σ c d a b)) (received s w σ c d a b);
   };
 }
-
--- k moves of a run
-pub run_start : (s : ℕ) (t : Stage ℕ ℕ) (l : List ℕ) → Moved s (ran s t 0) l l
-run_start s t l = record { so = λ σ h. h }
-
-pub run_next : (s : ℕ) (w : Way) (j : Joining) (e n k q : ℕ) {l l' l'' : List ℕ} → q ≡ steps_on w e (k + 1) → Moved s (ran s (running w j e n) k) l l'
-    → Moved s (stepped_all s w (record { joining = j; front = q })) l' l'' → Moved s (ran s (running w j e n) (k + 1)) l l''
-run_next s w j e n k q {l} {l'} {l''} h x y =
-    let f : q ≡ steps_on w e (suc k) = rw add-one at h in
-    rw add-one (record { so = λ σ u. (rw f at y).so _ (x.so σ u) })

@@ -8,21 +8,18 @@ use native.Mathlib.Omega.{arith}
 use native.Mathlib.Decide.{ℕ_discrete}
 use lib.Dec.{eqb, ltb}
 use lib.ListN.{length, get_or}
-use lib.Seq.{ext_get_or}
-use borrow.Author.Tests.{eq-eqb, ne_eqb, eqb-true, eqb-false, ltb-true, ltb-false}
+use borrow.Author.Tests.{lt-ltb, eq-eqb, ne_eqb, eqb-true, eqb-false, ltb-true, ltb-false}
 use Rattle.laws.proofs.Tables.{entries-all, entry_at, entries_cong}
 use Rattle.array.specs.declared.moves.Way.{Way}
 use Rattle.array.specs.declared.moves.Way.TheVariants.{Right, Left, Up, Down}
 use Rattle.array.specs.Cells.{groups, row, column}
 use Rattle.lanes.specs.declared.Joining.{Joining}
 use Rattle.lanes.specs.declared.Joining.TheVariants.{Add, Copy, Fill}
-use Rattle.lanes.specs.declared.steps.LinePlaces.{LinePlaces}
 use Rattle.lanes.specs.declared.steps.JoinRule.{JoinRule}
-use Rattle.lanes.specs.declared.steps.Source.{Source}
-use Rattle.lanes.specs.declared.steps.Source.TheVariants.{At, Nothing}
+use Rattle.std.specs.Prelude.{Some, None, MatchOption}
 use Rattle.sums.specs.Sums.{plus}
 use Rattle.lanes.specs.Stages.{front, copy, filled, position}
-use Rattle.lanes.specs.Inside.{Group, source_of, word_at, next_of, stepped, filling, after_turn, behind_of, place_gap, line_gap, no_line, line_from, line_at, order_of, PlacesLaid, join_of, join_from}
+use Rattle.lanes.specs.Inside.{Group, Source, source_of, word_at, next_of, stepped, filling, after_turn, behind_of, place_gap, line_gap, line_from, line_at, order_of, PlacesLaid, join_of, join_from, LineJoined, LinesJoined}
 use Rattle.lanes.specs.Runs.{rule_of}
 use Rattle.lanes.proofs.Lines.{front_now, front_not}
 use Rattle.lanes.proofs.Spots.{spot, line_number, spot_is, spot-line, spot-position, spot_in, line_in, position_in, behind_is, placed, source_is}
@@ -74,24 +71,25 @@ module _ (s : ℕ) (w : Way) (j : Joining) (p : ℕ) (l : List ℕ) where
         there : (i : ℕ) → i < groups s → (pos s w i ≡ p → ⊥) → get_or l' i 0 ≡ get_or l i 0
         there i u x = z.kept i (λ k v e. x (ap (pos s w) e ∙ spot-position v h w))
 
-    pub after_turn_joined : (q : ℕ) → p < s → behind_of s w p ≡ At q → PlacesLaid (p * place_gap s w) (line_gap s w) s (join_from j (p * place_gap s w) (q * place_gap s w) (line_gap s w) l) l l'
+    pub after_turn_joined : (q : ℕ) → p < s → behind_of s w p ≡ Some q → PlacesLaid (p * place_gap s w) (line_gap s w) s (join_from j (p * place_gap s w) (q * place_gap s w) (line_gap s w) l) l l'
         → l' ≡ after_turn s w j p l
     after_turn_joined q h e z = laid_after_turn _ h z (λ k u.
         sym (next_at k u h ∙ ap (λ b. rule_of j p p (get_or l (spot s w k p) 0) (word_at l (placed (spot s w k) b))) e ∙ rule_now j p _ _))
 
--- the same as the code works it out
-pub after_turn_received : (s : ℕ) (w : Way) (j : Joining) (p q next apart : ℕ) (l l' : List ℕ) → Group s (length l) → p < s → behind_of s w p ≡ At q
-    → next ≡ place_gap s w → apart ≡ line_gap s w → PlacesLaid (p * next) apart s (join_from j (p * next) (q * next) apart l) l l' → l' ≡ after_turn s w j p l
-after_turn_received s w j p q next apart l l' g h e x y z = after_turn_joined s w j p l l' g q h e (rw (x, y) at z)
-
-pub after_turn_cleared : (s : ℕ) (w : Way) (p next apart : ℕ) (l l' : List ℕ) → Group s (length l) → p < s → behind_of s w p ≡ Nothing
-    → next ≡ place_gap s w → apart ≡ line_gap s w → PlacesLaid (p * next) apart s (λ k. 0) l l' → l' ≡ after_turn s w Fill p l
-after_turn_cleared s w p next apart l l' g h e x y z = laid_after_turn s w Fill p l l' g (λ k. 0) h (rw (x, y) at z) (λ k u.
-    sym (next_at s w Fill p l k u h ∙ ap (λ b. rule_of Fill p p (get_or l (spot s w k p) 0) (word_at l (placed (spot s w k) b))) e))
+-- the same where every place takes what comes to it, and 0 where nothing comes
+pub after_turn_filled : (s : ℕ) (w : Way) (p : ℕ) (l l' : List ℕ) → Group s (length l) → p < s
+    → MatchOption (line_at s w p) (PlacesLaid (p * place_gap s w) (line_gap s w) s (λ k. 0) l l') (λ x. LineJoined Fill x l l') → l' ≡ after_turn s w Fill p l
+after_turn_filled s w p l l' g h z = from (behind_of s w p) refl (rw (lt-ltb p s h) at z)
+  where
+    from : (b : Source) → behind_of s w p ≡ b → MatchOption (line_from s w p b) (PlacesLaid (p * place_gap s w) (line_gap s w) s (λ k. 0) l l') (λ x. LineJoined Fill x l l')
+        → l' ≡ after_turn s w Fill p l
+    from (Some q) e z = after_turn_joined s w Fill p l l' g q h e z
+    from None e z = laid_after_turn s w Fill p l l' g (λ k. 0) h z (λ k u.
+        sym (next_at s w Fill p l k u h ∙ ap (λ b. rule_of Fill p p (get_or l (spot s w k p) 0) (word_at l (placed (spot s w k) b))) e))
 
 -- nothing happens with a front at the edge, and off the board
 after_turn_edge : (s : ℕ) (w : Way) (p : ℕ) (l : List ℕ) (op : ℕ → ℕ → ℕ) (j : Joining) → rule_of j ≡ front op → Group s (length l) → p < s
-    → behind_of s w p ≡ Nothing → l ≡ after_turn s w j p l
+    → behind_of s w p ≡ None → l ≡ after_turn s w j p l
 unfolding front
 after_turn_edge s w p l op j r g h e = after_turn_by s w j p l l g refl
     (λ i u x. sym
@@ -105,25 +103,18 @@ after_turn_off : (s : ℕ) (w : Way) (j : Joining) (p : ℕ) (l : List ℕ) → 
 after_turn_off s w j p l g h =
     after_turn_by s w j p l l g refl (λ i u x. absurd (omega (arith, position_in i w g.least u, x))) (λ i u x. refl)
 
--- where nothing is laid, nothing changes
-laid_nothing : {first apart : ℕ} {f : ℕ → ℕ} {l l' : List ℕ} → PlacesLaid first apart 0 f l l' → l' ≡ l
-laid_nothing {l = l} {l' = l'} z = ext_get_or 0 l' l z.size (λ i u. z.kept i (λ k v. absurd (omega arith)))
-
 -- a front's line
-pub after_turn_line : (s : ℕ) (w : Way) (p : ℕ) (l l' : List ℕ) (op : ℕ → ℕ → ℕ) (j : Joining) (x : LinePlaces) → rule_of j ≡ front op → Group s (length l) → x ≡ line_at s w p
-    → PlacesLaid x.to x.apart x.count (join_from j x.to x.from x.apart l) l l' → l' ≡ after_turn s w j p l
-after_turn_line s w p l l' op j x r g y z = go (ltb p s) refl (rw y at z)
+pub after_turn_line : (s : ℕ) (w : Way) (p : ℕ) (l l' : List ℕ) (op : ℕ → ℕ → ℕ) (j : Joining) → rule_of j ≡ front op → Group s (length l)
+    → LinesJoined j (line_at s w p) l l' → l' ≡ after_turn s w j p l
+after_turn_line s w p l l' op j r g z = go (ltb p s) refl z
   where
-    Lays : LinePlaces → Type 0
-    Lays x = PlacesLaid x.to x.apart x.count (join_from j x.to x.from x.apart l) l l'
+    from : (b : Source) → p < s → behind_of s w p ≡ b → LinesJoined j (line_from s w p b) l l' → l' ≡ after_turn s w j p l
+    from (Some q) h e z = after_turn_joined s w j p l l' g q h e z
+    from None h e z = z ∙ after_turn_edge s w p l op j r g h e
 
-    from : (b : Source) → p < s → behind_of s w p ≡ b → Lays (line_from s w p b) → l' ≡ after_turn s w j p l
-    from (At q) h e z = after_turn_joined s w j p l l' g q h e z
-    from Nothing h e z = laid_nothing z ∙ after_turn_edge s w p l op j r g h e
-
-    go : (t : Bool) → ltb p s ≡ t → Lays (cond (ltb p s) (line_from s w p (behind_of s w p)) no_line) → l' ≡ after_turn s w j p l
+    go : (t : Bool) → ltb p s ≡ t → LinesJoined j (cond (ltb p s) (line_from s w p (behind_of s w p)) None) l l' → l' ≡ after_turn s w j p l
     go true e z = from (behind_of s w p) (ltb-true p s e) refl (rw e at z)
-    go false e z = laid_nothing (rw e at z) ∙ after_turn_off s w j p l g (ltb-false p s e)
+    go false e z = rw e at z ∙ after_turn_off s w j p l g (ltb-false p s e)
 
 -- with a front the others keep what they have
 pub front-stepped : (s : ℕ) (w : Way) (r : JoinRule) (l l' : List ℕ) (op : ℕ → ℕ → ℕ) (j : Joining) → rule_of j ≡ front op → r.joining ≡ j
@@ -159,9 +150,6 @@ pub record Swept (s : ℕ) (w : Way) (old : List ℕ) (k : ℕ) (l : List ℕ) :
   pub left : (i : ℕ) → i < groups s → k ≤ order_of w s (pos s w i) → get_or l i 0 ≡ get_or old i 0
 
 module _ {s : ℕ} {w : Way} {old : List ℕ} where
-  pub swept_start : Group s (length old) → Swept s w old 0 old
-  swept_start g = record { group = g; done = λ i u x. absurd (omega arith); left = λ i u x. refl }
-
   -- what comes to a place is still as it was
   source_same : {k : ℕ} {l : List ℕ} → Swept s w old k l → (i : ℕ) → i < groups s → order_of w s (pos s w i) ≡ k
       → word_at l (source_of s w i) ≡ word_at old (source_of s w i)
@@ -171,11 +159,11 @@ module _ {s : ℕ} {w : Way} {old : List ℕ} where
       n = line_number w (row s i) (column s i)
 
       go : (b : Source) → behind_of s w (pos s w i) ≡ b → word_at l (placed (spot s w n) b) ≡ word_at old (placed (spot s w n) b)
-      go (At q) e =
+      go (Some q) e =
           let b = behind_is s w (pos s w i) q (position_in i w z.group.least u) e in
           let h = line_in i w z.group.least u in
           ap {B = Option ℕ} (λ y. some y) (z.left (spot s w n q) (spot_in h b.inside w) (omega (arith, x, b.later, ap (order_of w s) (spot-position h b.inside w))))
-      go Nothing e = refl
+      go None e = refl
 
   pub swept_next : {k : ℕ} {l l' : List ℕ} (p : ℕ) → k < s → p ≡ order_of w s k → l' ≡ after_turn s w Fill p l → length l' ≡ length l → Swept s w old k l → Swept s w old (k + 1) l'
   swept_next {k} {l} {l'} p h e f size z = record {
@@ -201,7 +189,3 @@ module _ {s : ℕ} {w : Way} {old : List ℕ} where
   pub swept_end : {k : ℕ} {l : List ℕ} → s ≤ k → Swept s w old k l → l ≡ stepped s w filling old
   swept_end {k} {l} h z =
       entries-all (next_of s w filling old) (groups s) 0 l z.group.whole (λ i u. z.done i u (omega (arith, order_in w s (pos s w i) (position_in i w z.group.least u))))
-
--- the rule of filling has no front
-pub filled-stepped : (s : ℕ) (w : Way) (r : JoinRule) (l l' : List ℕ) → r.joining ≡ Fill → l' ≡ stepped s w filling l → l' ≡ stepped s w r l
-filled-stepped s w r l l' e z = z ∙ entries_cong (groups s) (λ i u. rw e)

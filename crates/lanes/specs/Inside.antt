@@ -1,7 +1,7 @@
 -- What the functions inside this crate do to a lane: a move of a group's own stretch, a move of all groups, a run; and what the crates above
 -- say of lanes inside themselves. A reader of the public contracts does not need it.
-use Rattle.std.specs.Prelude.{ℕ, ◌+◌, ◌-◌, ◌*◌, ◌≤◌, ◌<◌, ◌≡◌, cond, List, length, get_or, ltb, eqb}
-use Rattle.std.proofs.Math.Option.{Option, none, some}
+use Rattle.std.specs.Prelude.{ℕ, ◌+◌, ◌-◌, ◌*◌, ◌≤◌, ◌<◌, ◌≡◌, cond, List, length, get_or, ltb, eqb, Option, Some, None, MatchOption, IfSome}
+use Rattle.std.proofs.Math.Option.{Option as Received, none, some}
 use Rattle.laws.specs.Tables.{entries}
 use Rattle.array.specs.declared.moves.Way.{Way}
 use Rattle.array.specs.declared.moves.Way.TheVariants.{Right, Left, Up, Down}
@@ -11,8 +11,6 @@ use Rattle.lanes.specs.declared.Joining.{Joining}
 use Rattle.lanes.specs.declared.Joining.TheVariants.{Add, Copy, Fill}
 use Rattle.lanes.specs.declared.steps.LinePlaces.{LinePlaces}
 use Rattle.lanes.specs.declared.steps.JoinRule.{JoinRule}
-use Rattle.lanes.specs.declared.steps.Source.{Source}
-use Rattle.lanes.specs.declared.steps.Source.TheVariants.{At, Nothing}
 use Rattle.lanes.specs.Machine.{State, make, at}
 use Rattle.sums.specs.Sums.{plus}
 use Rattle.lanes.specs.Stages.{position, word}
@@ -51,16 +49,20 @@ swapped_state σ c d a b = σ a b c d
 pub record Moved (s : ℕ) (f : State ℕ → State ℕ) (l l' : List ℕ) : Type 0 where
   pub so : (σ : State ℕ) → HoldsWords s l σ → HoldsWords s l' (f σ)
 
+-- the position, or the place, from which a word comes, where there is one
+abbrev pub Source : Type 0
+Source = Option ℕ
+
 -- the place of a group whose word comes to place i
 abbrev pub source_of : ℕ → Way → ℕ → Source
-source_of s Right i = cond (ltb 0 (column s i)) (At (i - 1)) Nothing
-source_of s Left i = cond (ltb (column s i + 1) s) (At (i + 1)) Nothing
-source_of s Up i = cond (ltb (row s i + 1) s) (At (i + s)) Nothing
-source_of s Down i = cond (ltb 0 (row s i)) (At (i - s)) Nothing
+source_of s Right i = cond (ltb 0 (column s i)) (Some (i - 1)) None
+source_of s Left i = cond (ltb (column s i + 1) s) (Some (i + 1)) None
+source_of s Up i = cond (ltb (row s i + 1) s) (Some (i + s)) None
+source_of s Down i = cond (ltb 0 (row s i)) (Some (i - s)) None
 
-abbrev pub word_at : List ℕ → Source → Option ℕ
-word_at l (At i) = some (get_or l i 0)
-word_at l Nothing = none
+abbrev pub word_at : List ℕ → Source → Received ℕ
+word_at l (Some i) = some (get_or l i 0)
+word_at l None = none
 
 -- the word of place i after a move of its group
 abbrev pub next_of : ℕ → Way → JoinRule → List ℕ → ℕ → ℕ
@@ -81,10 +83,10 @@ after_turn s w j p l =
 
 -- the position whose word comes to position p of a line
 abbrev pub behind_of : ℕ → Way → ℕ → Source
-behind_of s Right p = cond (ltb 0 p) (At (p - 1)) Nothing
-behind_of s Left p = cond (ltb (p + 1) s) (At (p + 1)) Nothing
-behind_of s Up p = cond (ltb (p + 1) s) (At (p + 1)) Nothing
-behind_of s Down p = cond (ltb 0 p) (At (p - 1)) Nothing
+behind_of s Right p = cond (ltb 0 p) (Some (p - 1)) None
+behind_of s Left p = cond (ltb (p + 1) s) (Some (p + 1)) None
+behind_of s Up p = cond (ltb (p + 1) s) (Some (p + 1)) None
+behind_of s Down p = cond (ltb 0 p) (Some (p - 1)) None
 
 -- how far apart the places of a line are, and the lines
 abbrev pub place_gap : ℕ → Way → ℕ
@@ -117,20 +119,20 @@ pub record Apart (to from apart count : ℕ) : Type 0 where
   pub are : (j k : ℕ) → j < count → k < count → from + j * apart ≡ to + k * apart → ⊥
 
 -- the places at position p and those behind them; none where no word comes
-abbrev pub no_line : LinePlaces
-no_line = record { to = 0; from = 0; apart = 1; count = 0 }
+abbrev pub line_from : ℕ → Way → ℕ → Source → Option LinePlaces
+line_from s w p (Some q) = Some (record { to = p * place_gap s w; from = q * place_gap s w; apart = line_gap s w; count = s })
+line_from s w p None = None
 
-abbrev pub line_from : ℕ → Way → ℕ → Source → LinePlaces
-line_from s w p (At q) = record { to = p * place_gap s w; from = q * place_gap s w; apart = line_gap s w; count = s }
-line_from s w p Nothing = no_line
-
-abbrev pub line_at : ℕ → Way → ℕ → LinePlaces
-line_at s w p = cond (ltb p s) (line_from s w p (behind_of s w p)) no_line
+abbrev pub line_at : ℕ → Way → ℕ → Option LinePlaces
+line_at s w p = cond (ltb p s) (line_from s w p (behind_of s w p)) None
 
 pub record LineIn (x : LinePlaces) (n : ℕ) : Type 0 where
   pub written : Places x.to x.apart x.count n
   pub heard : Places x.from x.apart x.count n
   pub apart : Apart x.to x.from x.apart x.count
+
+abbrev pub LinesIn : Option LinePlaces → ℕ → Type 0
+LinesIn line n = IfSome line (λ x. LineIn x n)
 
 -- count places hold f 0, f 1, .. and the others what they held
 pub record PlacesLaid (first apart count : ℕ) (f : ℕ → ℕ) (l l' : List ℕ) : Type 0 where
@@ -146,6 +148,13 @@ join_of Fill own x = x
 
 abbrev pub join_from : Joining → ℕ → ℕ → ℕ → List ℕ → ℕ → ℕ
 join_from j to from apart l k = join_of j (get_or l (to + k * apart) 0) (get_or l (from + k * apart) 0)
+
+-- the places of a line joined what came to them
+abbrev pub LineJoined : Joining → LinePlaces → List ℕ → List ℕ → Type 0
+LineJoined j x l l' = PlacesLaid x.to x.apart x.count (join_from j x.to x.from x.apart l) l l'
+
+abbrev pub LinesJoined : Joining → Option LinePlaces → List ℕ → List ℕ → Type 0
+LinesJoined j line l l' = MatchOption line (l' ≡ l) (λ x. LineJoined j x l l')
 
 -- a move of all groups
 abbrev pub stepped_all : ℕ → Way → JoinRule → State ℕ → State ℕ

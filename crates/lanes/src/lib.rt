@@ -13,7 +13,7 @@ use array::moves::Way;
 
 // What a cell does with the word that it receives. Add: it adds the word to its own. Copy: it keeps the word in place of its own. Both happen
 // only in the move in which its position has its turn. Fill: in every move it keeps what it receives, and 0 where it receives nothing.
-#[derive(Clone, Copy)]
+#[derive(Clone, Copy, Debug, PartialEq, Eq)]
 pub enum Joining {
     Add,
     Copy,
@@ -23,12 +23,7 @@ pub enum Joining {
 fn is_run(side: usize, e: usize, n: usize, length: usize) -> bool
     ensures { result ≡ (is_board side length && is_run side e n) }
 {
-    if is_board(side, length) {
-        if e <= side {
-            return n <= side;
-        }
-    }
-    false
+    is_board(side, length) && (e <= side && n <= side)
 }
 
 // n moves one way. With Add and Copy one position of each line has its turn in a move: position e in the first, the next one in the second, and

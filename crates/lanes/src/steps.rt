@@ -1,31 +1,22 @@
 // Electronic moves of one lane: in a group's own stretch, in all groups, and in runs.
-ghost use Rattle.std.specs.Prelude.{◌≡◌, cond, ◌+◌, ◌-◌, ◌≤◌, ◌<◌, length, ltb};
+ghost use Rattle.std.specs.Prelude.{◌≡◌, ◌≤◌, ◌<◌, length};
 ghost use Rattle.lanes.specs.Machine.{all};
 ghost use Rattle.lanes.specs.Stages.{steps_on};
-ghost use Rattle.lanes.specs.Inside.{FitsBoard, Group, Moved, Places, Apart, PlacesLaid, join_from, join_of, behind_of, place_gap, line_gap, line_at, LineIn, order_of, after_turn, filling, stepped, stepped_all};
+ghost use Rattle.lanes.specs.Inside.{FitsBoard, Group, Moved, Places, PlacesLaid, LineIn, LineJoined, LinesIn, LinesJoined, join_of, behind_of, place_gap, line_gap, line_at, order_of, after_turn, filling, stepped, stepped_all};
 ghost use Rattle.lanes.specs.Runs.{running};
 
 use crate::Joining;
 use array::moves::Way;
-use laws::over;
-use sums::plus;
 
 // What the cells do in one move; the front is the position whose turn it is.
-#[derive(Clone, Copy)]
+#[derive(Clone, Copy, Debug, PartialEq, Eq)]
 pub struct JoinRule {
     pub joining: Joining,
     pub front: usize,
 }
 
-// The position of a line from which a word comes.
-#[derive(Clone, Copy)]
-pub enum Source {
-    At(usize),
-    Nothing,
-}
-
 // The places that take a word in a move, and those from which it comes: the first of each, how far apart they are, and how many.
-#[derive(Clone, Copy)]
+#[derive(Clone, Copy, Debug, PartialEq, Eq)]
 pub struct LinePlaces {
     pub to: usize,
     pub from: usize,
@@ -33,45 +24,24 @@ pub struct LinePlaces {
     pub count: usize,
 }
 
-const NO_LINE: LinePlaces = LinePlaces {
-    to: 0,
-    from: 0,
-    apart: 1,
-    count: 0,
-};
-
-// The position before p.
-fn earlier(p: usize) -> Source
-    ensures { result ≡ cond (ltb 0 p) (Source.At (p - 1)) Source.Nothing }
-{
-    if 0 < p {
-        return Source::At(p - 1);
-    }
-    Source::Nothing
-}
-
-// The position after it.
-fn later(side: usize, p: usize) -> Source
-    requires { p < side }
-    ensures { result ≡ cond (ltb (p + 1) side) (Source.At (p + 1)) Source.Nothing }
-{
-    if p + 1 < side {
-        return Source::At(p + 1);
-    }
-    Source::Nothing
-}
-
-// The position whose word comes to position p.
-fn behind(side: usize, way: Way, p: usize) -> Source
+// The position whose word comes to position p, where there is one.
+fn behind(side: usize, way: Way, p: usize) -> Option<usize>
     requires { p < side }
     ensures { result ≡ behind_of side way p }
 {
     match way {
-        Way::Right => earlier(p),
-        Way::Left => later(side, p),
-        Way::Up => later(side, p),
-        Way::Down => earlier(p),
+        Way::Right | Way::Down => {
+            if 0 < p {
+                return Some(p - 1);
+            }
+        }
+        Way::Left | Way::Up => {
+            if p + 1 < side {
+                return Some(p + 1);
+            }
+        }
     }
+    None
 }
 
 // How far apart the places of a line are in a stretch.
@@ -79,10 +49,8 @@ fn place_gap(side: usize, way: Way) -> usize
     ensures { result ≡ place_gap side way }
 {
     match way {
-        Way::Right => 1,
-        Way::Left => 1,
-        Way::Up => side,
-        Way::Down => side,
+        Way::Right | Way::Left => 1,
+        Way::Up | Way::Down => side,
     }
 }
 
@@ -91,10 +59,8 @@ fn line_gap(side: usize, way: Way) -> usize
     ensures { result ≡ line_gap side way }
 {
     match way {
-        Way::Right => side,
-        Way::Left => side,
-        Way::Up => 1,
-        Way::Down => 1,
+        Way::Right | Way::Left => side,
+        Way::Up | Way::Down => 1,
     }
 }
 
@@ -103,41 +69,38 @@ fn join(joining: Joining, own: u32, x: u32) -> u32
     ensures { result ≡ join_of joining own x }
 {
     match joining {
-        Joining::Add => plus(own, x),
+        Joining::Add => own.wrapping_add(x),
         Joining::Copy => x,
         Joining::Fill => x,
     }
 }
 
-// So many places, from one on and so far apart, join the words of as many from another one on.
-fn join_places(
-    part: &mut [u32],
-    joining: Joining,
-    to: usize,
-    from: usize,
-    apart: usize,
-    count: usize,
-)
-    requires written { Places to apart count (length part.old) }
-    requires heard { Places from apart count (length part.old) }
-    requires apart { Apart to from apart count }
-    ensures { PlacesLaid to apart count (join_from joining to from apart part.old) part.old part.new }
+// The places of a line join the words that come to them.
+fn join_places(part: &mut [u32], joining: Joining, line: LinePlaces)
+    requires { LineIn line (length part.old) }
+    ensures { LineJoined joining line part.old part.new }
 {
-    let mut k = 0;
-    while k < count {
+    let LinePlaces {
+        to,
+        from,
+        apart,
+        count,
+    } = line;
+    for k in 0..count {
         let i = to + k * apart;
         let j = from + k * apart;
-        let v = join(joining, part[i], part[j]);
-        part[i] = v;
-        k += 1;
+        part[i] = join(joining, part[i], part[j]);
     }
 }
 
-fn join_line(part: &mut [u32], joining: Joining, line: LinePlaces)
-    requires { LineIn line (length part.old) }
-    ensures { PlacesLaid line.to line.apart line.count (join_from joining line.to line.from line.apart part.old) part.old part.new }
+// Nothing happens where no word comes.
+fn join_line(part: &mut [u32], joining: Joining, line: Option<LinePlaces>)
+    requires { LinesIn line (length part.old) }
+    ensures { LinesJoined joining line part.old part.new }
 {
-    join_places(part, joining, line.to, line.from, line.apart, line.count);
+    if let Some(line) = line {
+        join_places(part, joining, line);
+    }
 }
 
 // So many places hold 0.
@@ -145,48 +108,39 @@ fn clear_places(part: &mut [u32], to: usize, apart: usize, count: usize)
     requires { Places to apart count (length part.old) }
     ensures { PlacesLaid to apart count (λ k. 0) part.old part.new }
 {
-    let mut k = 0;
-    while k < count {
-        let i = to + k * apart;
-        part[i] = 0;
-        k += 1;
+    for k in 0..count {
+        part[to + k * apart] = 0;
     }
 }
 
 // The places at position p and those behind them; none where no word comes.
-fn line_at(side: usize, way: Way, p: usize) -> LinePlaces
+fn line_at(side: usize, way: Way, p: usize) -> Option<LinePlaces>
     requires { (1 ≤ side) × (side ≤ 8) }
     ensures { result ≡ line_at side way p }
 {
     if side <= p {
-        return NO_LINE;
+        return None;
     }
+    let q = behind(side, way, p)?;
     let next = place_gap(side, way);
-    let apart = line_gap(side, way);
-    let from = behind(side, way, p);
-    match from {
-        Source::At(q) => LinePlaces {
-            to: p * next,
-            from: q * next,
-            apart: apart,
-            count: side,
-        },
-        Source::Nothing => NO_LINE,
-    }
+    Some(LinePlaces {
+        to: p * next,
+        from: q * next,
+        apart: line_gap(side, way),
+        count: side,
+    })
 }
 
-// So many places take the words of as many others. Those that lie side by side, a row, have a call of their own: it is compiled by itself, to
-// several words at a time.
-fn take_places(part: &mut [u32], to: usize, from: usize, apart: usize, count: usize)
-    requires written { Places to apart count (length part.old) }
-    requires heard { Places from apart count (length part.old) }
-    requires apart { Apart to from apart count }
-    ensures { PlacesLaid to apart count (join_from Joining.Fill to from apart part.old) part.old part.new }
+// The places of a line take the words that come to them. Those that lie side by side, a row, have a call of their own: it is compiled by
+// itself, to several words at a time.
+fn take_places(part: &mut [u32], line: LinePlaces)
+    requires { LineIn line (length part.old) }
+    ensures { LineJoined Joining.Fill line part.old part.new }
 {
-    if apart == 1 {
-        join_places(part, Joining::Fill, to, from, 1, count);
+    if line.apart == 1 {
+        join_places(part, Joining::Fill, LinePlaces { apart: 1, ..line });
     } else {
-        join_places(part, Joining::Fill, to, from, apart, count);
+        join_places(part, Joining::Fill, line);
     }
 }
 
@@ -196,12 +150,9 @@ fn fill_line(part: &mut [u32], side: usize, way: Way, p: usize)
     requires p_lt_side { p < side }
     ensures { part.new ≡ after_turn side way Joining.Fill p part.old }
 {
-    let next = place_gap(side, way);
-    let apart = line_gap(side, way);
-    let from = behind(side, way, p);
-    match from {
-        Source::At(q) => take_places(part, p * next, q * next, apart, side),
-        Source::Nothing => clear_places(part, p * next, apart, side),
+    match line_at(side, way, p) {
+        Some(line) => take_places(part, line),
+        None => clear_places(part, p * place_gap(side, way), line_gap(side, way), side),
     }
 }
 
@@ -211,10 +162,8 @@ fn order(way: Way, side: usize, k: usize) -> usize
     ensures { result ≡ order_of way side k }
 {
     match way {
-        Way::Right => side - 1 - k,
-        Way::Left => k,
-        Way::Up => k,
-        Way::Down => side - 1 - k,
+        Way::Right | Way::Down => side - 1 - k,
+        Way::Left | Way::Up => k,
     }
 }
 
@@ -223,21 +172,18 @@ fn fill(part: &mut [u32], side: usize, way: Way)
     requires { Group side (length part.old) }
     ensures { part.new ≡ stepped side way filling part.old }
 {
-    let mut k = 0;
-    while k < side {
+    for k in 0..side {
         fill_line(part, side, way, order(way, side, k));
-        k += 1;
     }
 }
 
 // One move inside a group, in its own stretch: with a front that position alone has its turn.
-fn step(part: &mut [u32], side: usize, way: Way, rule: JoinRule, line: LinePlaces)
+fn step(part: &mut [u32], side: usize, way: Way, rule: JoinRule, line: Option<LinePlaces>)
     requires group { Group side (length part.old) }
     requires line_value { line ≡ line_at side way rule.front }
     ensures { part.new ≡ stepped side way rule part.old }
 {
-    let joining = rule.joining;
-    match joining {
+    match rule.joining {
         Joining::Add => join_line(part, Joining::Add, line),
         Joining::Copy => join_line(part, Joining::Copy, line),
         Joining::Fill => fill(part, side, way),
@@ -251,12 +197,10 @@ fn step_all(words: &mut [u32], side: usize, way: Way, rule: JoinRule)
 {
     let line = line_at(side, way, rule.front);
     let n = side * side;
-    let mut g = 0;
-    while g < n {
+    for g in 0..n {
         let a = g * n;
         let e = a + n;
         step(&mut words[a..e], side, way, rule, line);
-        g += 1;
     }
 }
 
@@ -266,10 +210,8 @@ fn steps_on(way: Way, e: usize, k: usize) -> usize
     ensures { result ≡ steps_on way e k }
 {
     match way {
-        Way::Right => e + k,
-        Way::Left => over(e, k),
-        Way::Up => over(e, k),
-        Way::Down => e + k,
+        Way::Right | Way::Down => e + k,
+        Way::Left | Way::Up => e.saturating_sub(k),
     }
 }
 
@@ -286,13 +228,8 @@ pub(crate) fn run_board(
     requires e_bound { (e ≤ 8) × (n ≤ 8) }
     ensures { Moved side (all side (running way joining e n)) words.old words.new }
 {
-    let mut k = 0;
-    while k < n {
-        let rule = JoinRule {
-            joining: joining,
-            front: steps_on(way, e, k + 1),
-        };
-        step_all(words, side, way, rule);
-        k += 1;
+    for k in 0..n {
+        let front = steps_on(way, e, k + 1);
+        step_all(words, side, way, JoinRule { joining, front });
     }
 }

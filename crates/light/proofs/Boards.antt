@@ -4,7 +4,7 @@ use mathlib.Core.Path.{◌≡◌}
 use mathlib.Core.Bool.{true}
 use Rattle.laws.proofs.Bools.{both_left, both_right}
 use Rattle.array.specs.Cells.{is_board}
-use Rattle.light.specs.Lanes.{are_slots}
+use Rattle.array.specs.Lent.{are_slots}
 
 pub record Boards (s a b c : ℕ) : Type 0 where
   pub words : is_board s a ≡ true

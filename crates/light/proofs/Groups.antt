@@ -9,8 +9,10 @@ use native.Mathlib.Nat.{suc-mul, mul-le-mul_right}
 use native.Mathlib.Numerals.{add-one}
 use native.Mathlib.Omega.{arith}
 use borrow.Author.Tests.{le-ltb}
-use lib.ListN.{length, get_or, set, length-set}
+use lib.ListN.{length, get_or, length-set}
 use lib.Arith.{digits_lt}
+use Rattle.std.specs.List.{swap}
+use Rattle.std.proofs.lemmas.List.Edits.{swap_is}
 use Rattle.laws.proofs.Deciding.{same?}
 use Rattle.laws.proofs.Trading.{Paired, Trading, Traded, traded_start, traded_turn, traded_end}
 use Rattle.array.specs.Cells.{is_side, groups, cells, cell, partner, is_board}
@@ -88,10 +90,6 @@ from_traded : {s j : ℕ} {old l : List ℕ} → Traded (cells s) (partner s) j 
 from_traded z = record { size = z.long; holds = z.trades.turned }
 
 module _ {s g p : ℕ} {l₀ l : List ℕ} (z : Trades s g p l₀ l) where
-  -- the lane is as long as it was
-  pub trades_long : length l ≡ length l₀
-  trades_long = z.long ∙ sym (board_cells s (length l₀) z.board)
-
   -- a cell whose turn comes, and its partner
   pub trades_ends : p < groups s → Ends s g p
   trades_ends h = ends s g p (board_side s (length l₀) z.board) (omega (arith, z.after), h)
@@ -113,9 +111,6 @@ module _ {s g p : ℕ} {l₀ l : List ℕ} (z : Trades s g p l₀ l) where
       inside = omega (arith, z.after, z.upto)
 
   module _ {q : ℕ} (h : p < groups s) (e : q ≡ partner s (cell s g p)) where
-    abbrev traded_list : List ℕ
-    traded_list = set (set l (cell s g p) (get_or l q 0)) q (get_or l (cell s g p) 0)
-
     pub trades_later : cell s g p < q
     trades_later = rw (e, partner-at s g p h) (comes_later (groups s) g p z.after h)
 
@@ -135,16 +130,20 @@ module _ {s g p : ℕ} {l₀ l : List ℕ} (z : Trades s g p l₀ l) where
             → get_or l i 0 ≡ get_or old i 0
         waits c i u v w = rw (le-ltb (min i (partner s i)) (cell s g p) (omega arith)) at (c.turned i u)
 
-    pub trades_turn : Trades s g (p + 1) l₀ traded_list
-    trades_turn = record {
-      board = z.board;
-      after = omega (arith, z.after);
-      upto = omega arith;
-      long = simp length-set z.long;
-      so = λ old t.
-          let w : cell s g (p + 1) ≡ cell s g p + 1 = omega arith in
-          rw w (traded_turn (paired s (board_known s _ z.board)) (digits_lt (omega (arith, z.after)) h) old l traded_list (z.so old t) e (inl (trades_later, refl)));
-    }
+    pub trades_turn : Trades s g (p + 1) l₀ (swap l (cell s g p) q)
+    trades_turn =
+        let k = trades_ends h in
+        let other : q < length l = rw z.long (trades_other q h e) in
+        rw (← swap_is l (cell s g p) q 0 (omega (arith, k, z.long)) other)
+        (record {
+          board = z.board;
+          after = omega (arith, z.after);
+          upto = omega arith;
+          long = simp length-set z.long;
+          so = λ old t.
+              let w : cell s g (p + 1) ≡ cell s g p + 1 = omega arith in
+              rw w (traded_turn (paired s (board_known s _ z.board)) k.one old l _ (z.so old t) e (inl (trades_later, refl)));
+        })
 
 -- the groups before g had their turn
 pub record Rounds (s g : ℕ) (old l : List ℕ) : Type 0 where

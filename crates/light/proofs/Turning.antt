@@ -1,17 +1,13 @@
 -- Lanes of a board, and that its cells are joined in pairs.
-use Prim.Native.Nat.{ℕ, ◌≤◌}
+use Prim.Native.Nat.{ℕ}
 use mathlib.Core.Path.{◌≡◌}
-use mathlib.Core.Bool.{true, false}
-use mathlib.Core.List.{List}
-use native.Mathlib.Omega.{arith}
+use mathlib.Core.Bool.{true}
 use borrow.Author.Tests.{eqb-true}
 use lib.Dec.{eqb}
-use lib.ListN.{length}
 use Rattle.laws.proofs.Bools.{both_left, both_right}
 use Rattle.laws.proofs.Trading.{Paired}
 use Rattle.array.specs.Cells.{is_side, cells, partner, is_board}
 use Rattle.array.proofs.Board.{Side, side_known, partner_in, partner_twice}
-use Rattle.light.specs.Lane.{swapped_lane}
 
 pub board_side : (s n : ℕ) → is_board s n ≡ true → is_side s ≡ true
 board_side s n h = both_left (is_side s) (eqb n (cells s)) h
@@ -21,12 +17,6 @@ board_known s n h = side_known s (board_side s n h)
 
 pub board_cells : (s n : ℕ) → is_board s n ≡ true → n ≡ cells s
 board_cells s n h = eqb-true n (cells s) (both_right (is_side s) (eqb n (cells s)) h)
-
-pub board_few : (s n : ℕ) → is_board s n ≡ true → n ≤ 4096
-board_few s n h = omega (arith, board_cells s n h, (board_known s n h).cells_few)
-
-pub not_swapped : (s : ℕ) (l : List ℕ) → is_board s (length l) ≡ false → l ≡ swapped_lane s l
-not_swapped s l h = rw h
 
 pub paired : (s : ℕ) → Side s → Paired (cells s) (partner s)
 paired s h = record { inside = partner_in h.least; twice = partner_twice h.least }

@@ -1,6 +1,6 @@
 -- The swap of a slot's lanes as it is made: in each group the cells past its own place trade with their partners, and the records of both are counted.
 use Prim.Native.Nat.{ℕ, zero, suc, ◌+◌, ◌*◌, ◌≤◌, ◌<◌}
-use mathlib.Core.Path.{◌≡◌, refl, sym, ap, ap₂, subst, ◌∙◌}
+use mathlib.Core.Path.{◌≡◌, refl, sym, ap, ap₂, ◌∙◌}
 use mathlib.Core.Logic.{⊎_elim}
 use mathlib.Core.Bool.{Bool, true, false, cond}
 use mathlib.Core.List.{List}
@@ -19,20 +19,15 @@ use Rattle.array.specs.Cells.{is_side, groups, cells, cell, partner, is_board}
 use Rattle.array.proofs.Board.{Side, side_known}
 use Rattle.light.specs.Lane.{swapped_lane}
 use Rattle.light.specs.Counts.{mark_count, leaves_of, leaving_of}
-use Rattle.light.specs.Lanes.{Slots, slots, on_board, each, swapped_by, swaps_on, Swapped}
-use Rattle.light.specs.Inside.{Turned, exchanged, Traded, pair_at, pairs_in, SlotsTurned, Once, Times}
+use Rattle.light.specs.Lanes.{Slots, slots, on_board, each, swapped_by}
+use Rattle.light.specs.Inside.{Turned, Traded, pair_at, pairs_in, SlotsTurned, Once, Times}
 use Rattle.light.proofs.Boards.{boards_known}
 use Rattle.light.proofs.Turning.{board_known, board_side, paired}
-use Rattle.light.proofs.Groups.{partner-at, comes_later, Trades, trades_start, trades_turn, trades_waiting, trades_end, Rounds, rounds_start, rounds_board, rounds_turn, rounds_end}
+use Rattle.light.proofs.Groups.{partner-at, comes_later, Trades, trades_start, trades_turn, trades_waiting, trades_end, Rounds, rounds_start, rounds_turn, rounds_end}
 
 -- two slots' lanes are equal by each
 pub slots_ext : {w m a w' m' a' : List ℕ} → w ≡ w' → m ≡ m' → a ≡ a' → slots w m a ≡ slots w' m' a'
 slots_ext p q r = λ d. slots (p d) (q d) (r d)
-
--- a trade, by what its parts say
-pub traded_some : {j p : ℕ} {w m a w' m' a' : List ℕ} {r r₂ n : ℕ} → r ≡ mark_count (get_or m j 0) → r₂ ≡ mark_count (get_or m p 0) → r ≤ 1 → r₂ ≤ 1 → n ≡ r + r₂
-    → w' ≡ exchanged j p w → m' ≡ exchanged j p m → a' ≡ exchanged j p a → Traded j p (slots w m a) (slots w' m' a') n
-traded_some e f k l g x y z = record { lanes = slots_ext x y z; count = g ∙ ap₂ ◌+◌ e f; few = omega arith }
 
 -- a slot's lanes on a board have its side
 pub slots_side : (s : ℕ) (t : Slots) → on_board s t ≡ true → is_side s ≡ true
@@ -102,9 +97,6 @@ walking_start s t b =
       few = omega arith;
       so_far = refl;
     }
-
-pub walking_board : {s g moved : ℕ} {t u : Slots} → Walking s g t u moved → on_board s u ≡ true
-walking_board z = rw (rounds_board z.words, rounds_board z.marks, rounds_board z.aims)
 
 pub walking_step : {s g moved r : ℕ} {t u v : Slots} → g < groups s → Walking s g t u moved → SlotsTurned s g u v r → Walking s (g + 1) t v (moved + r)
 walking_step {s} {g} {moved} {r} {t} h z y = record {
@@ -199,18 +191,3 @@ times_board {s} {j} {t} b z =
 
 pub times_end : {s n j : ℕ} {t u : Slots} {r : ℕ} → n ≤ j → j ≤ n → Times s j t u r → Times s n t u r
 times_end {s} {n} {j} {t} {u} {r} h k z = let e : j ≡ n = omega arith in rw e at z
-
--- front slots and spare slots
-pub both-swapped : {s n : ℕ} {t t₂ u u₂ : Slots} {a b r : ℕ} → Times s (swaps_on s n t) t u a → Times s (swaps_on s n t₂) t₂ u₂ b → r ≡ a + b
-    → Swapped s n (record { front = t; spare = t₂ }) (record { front = u; spare = u₂ }) r
-both-swapped y z e = record { front = y.lanes; spare = z.lanes; count = e ∙ ap₂ ◌+◌ y.count z.count }
-
--- some are counted only where they count
-pub some_counted : {n : ℕ} (times : ℕ) (a : Bool) → n ≡ cond a times 0 → 0 < n → a ≡ true
-some_counted times true e h = refl
-some_counted times false e h = absurd (omega arith)
-
--- as many swaps as there are to make
-module _ (s times : ℕ) (t : Slots) {n : ℕ} {a : Bool} (f : a ≡ on_board s t) (e : n ≡ cond a times 0) where
-  pub times_counted : {u : Slots} {r : ℕ} → Times s n t u r → Times s (swaps_on s times t) t u r
-  times_counted {u} {r} z = subst (λ (k : ℕ). Times s k t u r) (e ∙ ap (λ (b : Bool). cond b times 0) f) z

@@ -1,13 +1,13 @@
 -- What private functions' contracts cite; the public contracts are read without it.
-use Rattle.std.specs.Prelude.{ℕ, suc, min, ◌+◌, ◌≤◌, ◌<◌, ◌≡◌, cond, List, eqb, ltb, length, get_or, set}
-use Rattle.laws.specs.Lent.{Slice, Lent, old, new}
+use Rattle.std.specs.Prelude.{ℕ, suc, min, ◌+◌, ◌≤◌, ◌<◌, ◌≡◌, cond, List, eqb, ltb, length, get_or}
+use Rattle.std.specs.List.{swap}
 use Rattle.laws.specs.Sums.{sum}
 use Rattle.array.specs.Cells.{groups, cells, cell, partner}
 use Rattle.light.specs.Lane.{swapped_lane}
 use Rattle.light.specs.Counts.{mark_count, leaving_of}
-use Rattle.light.specs.Lanes.{Slots, slots, each, swapped_by, swaps_on}
+use Rattle.light.specs.Lanes.{Slots, each, swapped_by}
 
--- a list of the partners of group g's cells, as far as it goes; an empty one is as good
+-- a list of the partners of group g's cells, as far as it goes
 pub record Listed (s g : ℕ) (list : List ℕ) : Type 0 where
   pub entry : (p : ℕ) → p < length list → get_or list p 0 ≡ partner s (cell s g p)
 
@@ -20,29 +20,17 @@ pub record Turned (s j : ℕ) (old l : List ℕ) : Type 0 where
 pub record GroupTurned (s g : ℕ) (l l' : List ℕ) : Type 0 where
   pub so : (old : List ℕ) → Turned s (cell s g 0) old l → Turned s (cell s (suc g) 0) old l'
 
--- a slot's lanes in a requires
-abbrev pub lent : Slice → Slice → Slice → Slots
-lent w m a = slots w.now m.now a.now
-
 -- three lanes have a cell p
-abbrev pub HasCell : ℕ → Slice → Slice → Slice → Type 0
-HasCell p w m a = (p < length w.now) × ((p < length m.now) × (p < length a.now))
-
--- entries j and p exchanged
-abbrev pub exchanged : ℕ → ℕ → List ℕ → List ℕ
-exchanged j p l = set (set l j (get_or l p 0)) p (get_or l j 0)
-
-abbrev pub Exchanged : ℕ → ℕ → Lent → Type 0
-Exchanged j p l = new l ≡ exchanged j p (old l)
+pub record HasCell (p : ℕ) (t : Slots) : Type 0 where
+  pub words : p < length t.words
+  pub marks : p < length t.marks
+  pub aims : p < length t.aims
 
 -- cells j and p of a slot's lanes traded, and their records were counted
 pub record Traded (j p : ℕ) (t u : Slots) (r : ℕ) : Type 0 where
-  pub lanes : u ≡ each (exchanged j p) t
+  pub lanes : u ≡ each (λ l. swap l j p) t
   pub count : r ≡ mark_count (get_or t.marks j 0) + mark_count (get_or t.marks p 0)
   pub few : r ≤ 2
-
-abbrev pub TradedSlot : ℕ → ℕ → Lent → Lent → Lent → ℕ → Type 0
-TradedSlot j p w m a r = Traded j p (slots (old w) (old m) (old a)) (slots (new w) (new m) (new a)) r
 
 -- how many records there are in cell p of group g and in its partner, where p is past g
 abbrev pub pair_at : ℕ → ℕ → List ℕ → ℕ → ℕ
@@ -59,23 +47,14 @@ pub record SlotsTurned (s g : ℕ) (t u : Slots) (r : ℕ) : Type 0 where
   pub count : (old : List ℕ) → Turned s (cell s g 0) old t.marks → r ≡ pairs_in s g old
   pub few : r ≤ 128
 
-abbrev pub TurnedSlots : ℕ → ℕ → Lent → Lent → Lent → ℕ → Type 0
-TurnedSlots s g w m a r = SlotsTurned s g (slots (old w) (old m) (old a)) (slots (new w) (new m) (new a)) r
-
 -- one swap of a slot's lanes
 pub record Once (s : ℕ) (t u : Slots) (r : ℕ) : Type 0 where
   pub lanes : u ≡ each (swapped_lane s) t
   pub count : r ≡ leaving_of s t.marks
   pub few : r ≤ 4096
 
-abbrev pub SwappedOnce : ℕ → Lent → Lent → Lent → ℕ → Type 0
-SwappedOnce s w m a r = Once s (slots (old w) (old m) (old a)) (slots (new w) (new m) (new a)) r
-
 -- n of them
 pub record Times (s n : ℕ) (t u : Slots) (r : ℕ) : Type 0 where
   pub lanes : u ≡ each (swapped_by s n) t
   pub count : r ≡ cond (eqb n 0) 0 (leaving_of s t.marks)
   pub few : r ≤ 4096
-
-abbrev pub TradedTimes : ℕ → ℕ → Lent → Lent → Lent → ℕ → Type 0
-TradedTimes s n w m a r = Times s (swaps_on s n (slots (old w) (old m) (old a))) (slots (old w) (old m) (old a)) (slots (new w) (new m) (new a)) r

@@ -1,17 +1,12 @@
 -- Swaps of all six lanes of a board: the words, marks and aims of its front slots, and those of its spare slots.
-use Rattle.std.specs.Prelude.{ℕ, zero, suc, ◌+◌, ◌≡◌, Bool, cond, ◌&&◌, List, eqb, length}
+use Rattle.std.specs.Prelude.{ℕ, zero, suc, ◌+◌, ◌≡◌, Bool, cond, List, eqb, length}
 use Rattle.laws.specs.Lent.{Lent, old, new}
-use Rattle.array.specs.Cells.{is_board}
+use Rattle.array.specs.declared.lent.LentSlots.{LentSlots}
+use Rattle.array.specs.Lent.{are_slots, are_lanes, PassedLanes, of_lanes}
 use Rattle.light.specs.Lane.{swapped_lane}
 use Rattle.light.specs.Counts.{leaving_of}
 
--- three lanes of these lengths, and six, are those of a board
-abbrev pub are_slots : ℕ → ℕ → ℕ → ℕ → Bool
-are_slots s a b c = is_board s a && (is_board s b && is_board s c)
-
-abbrev pub are_lanes : ℕ → ℕ → ℕ → ℕ → ℕ → ℕ → ℕ → Bool
-are_lanes s a b c d e f = are_slots s a b c && are_slots s d e f
-
+-- six lanes are those of a board
 abbrev pub have_board : ℕ → Lent → Lent → Lent → Lent → Lent → Lent → Bool
 have_board s w m a w₂ m₂ a₂ =
     are_lanes s (length (old w)) (length (old m)) (length (old a)) (length (old w₂)) (length (old m₂)) (length (old a₂))
@@ -24,6 +19,9 @@ pub record Slots : Type 0 where
 
 abbrev pub slots : List ℕ → List ℕ → List ℕ → Slots
 slots w m a = record { words = w; marks = m; aims = a }
+
+abbrev pub held : LentSlots → Slots
+held t = slots t.words.now t.marks.now t.aims.now
 
 -- they are lanes of a board
 abbrev pub on_board : ℕ → Slots → Bool
@@ -70,3 +68,6 @@ pub record Swapped (s n : ℕ) (t u : Table) (r : ℕ) : Type 0 where
 -- n swaps of lent lanes
 abbrev pub SwappedLanes : ℕ → ℕ → Lent → Lent → Lent → Lent → Lent → Lent → ℕ → Type 0
 SwappedLanes s n w m a w₂ m₂ a₂ r = Swapped s n (table_before w m a w₂ m₂ a₂) (table_after w m a w₂ m₂ a₂) r
+
+abbrev pub SwappedLent : ℕ → ℕ → PassedLanes → ℕ → Type 0
+SwappedLent s n lanes r = of_lanes (λ w m a w₂ m₂ a₂. SwappedLanes s n w m a w₂ m₂ a₂ r) lanes

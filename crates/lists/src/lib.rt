@@ -7,8 +7,7 @@ ghost use Rattle.array.specs.Cells.{is_side, groups as groups_of};
 ghost use Rattle.lists.specs.Lists.{total_moves, spread_runs, broadcast_runs, data_sum_runs, prefix_sum_runs, concentrate_runs, distribute_runs, runs_of};
 
 use array::cells::{is_cell, is_side};
-use array::moves::{DOWN, LEFT, Move, RIGHT, SWAP, UP};
-use laws::over;
+use array::moves::{DOWN, LEFT, Move, RIGHT, SWAP, UP, Way};
 use runs::{Run, no_runs};
 
 // How many moves prefix sum, rank, concentrate and distribute have on a board, and 0 where no board has the side.
@@ -26,14 +25,8 @@ fn whole(n: usize, step: Move) -> Run
     ensures { result ≡ whole_of n step }
 {
     match step {
-        Move::Swap => Run {
-            step: Move::Swap,
-            times: 1,
-        },
-        Move::Electronic(way) => Run {
-            step: Move::Electronic(way),
-            times: n,
-        },
+        Move::Swap => Run::swapping(1),
+        Move::Electronic(way) => Run::along(way, n),
     }
 }
 
@@ -41,13 +34,10 @@ fn whole(n: usize, step: Move) -> Run
 fn whole_runs(side: usize, steps: [Move; 9]) -> [Run; 9]
     ensures { result ≡ map (whole_of (side - 1)) steps }
 {
-    let last = over(side, 1);
+    let last = side.saturating_sub(1);
     let mut runs = no_runs();
-    let mut q: usize = 0;
-    while q < 9 {
-        let step = steps[q];
-        runs[q] = whole(last, step);
-        q += 1;
+    for q in 0..9 {
+        runs[q] = whole(last, steps[q]);
     }
     runs
 }
@@ -78,7 +68,7 @@ pub fn distribute_runs(side: usize) -> [Run; 9]
 }
 
 // What the records are moved for: to the front, or back to the cells that their aims name.
-#[derive(Clone, Copy)]
+#[derive(Clone, Copy, Debug, PartialEq, Eq)]
 pub enum Trip {
     Concentrate,
     Distribute,
@@ -102,23 +92,12 @@ fn spread_runs(side: usize, p: usize) -> [Run; 4]
     let last = side - 1;
     let row = p / side;
     let column = p % side;
-    let left = Run {
-        step: LEFT,
-        times: column,
-    };
-    let right = Run {
-        step: RIGHT,
-        times: last - column,
-    };
-    let up = Run {
-        step: UP,
-        times: row,
-    };
-    let down = Run {
-        step: DOWN,
-        times: last - row,
-    };
-    [left, right, up, down]
+    [
+        Run::along(Way::Left, column),
+        Run::along(Way::Right, last - column),
+        Run::along(Way::Up, row),
+        Run::along(Way::Down, last - row),
+    ]
 }
 
 pub fn broadcast_runs(side: usize, cell: usize) -> [Run; 9]
@@ -130,9 +109,15 @@ pub fn broadcast_runs(side: usize, cell: usize) -> [Run; 9]
     let groups = side * side;
     let a = spread_runs(side, cell % groups);
     let b = spread_runs(side, cell / groups);
-    let swap = Run {
-        step: SWAP,
-        times: 1,
-    };
-    [a[0], a[1], a[2], a[3], swap, b[0], b[1], b[2], b[3]]
+    [
+        a[0],
+        a[1],
+        a[2],
+        a[3],
+        Run::swapping(1),
+        b[0],
+        b[1],
+        b[2],
+        b[3],
+    ]
 }

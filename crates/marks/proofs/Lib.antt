@@ -1,3 +1,1 @@
-pub mod Bounded
 pub mod Checked
-pub mod Counting

@@ -1,8 +1,7 @@
 -- Marks: 0 or 1 in each cell, and the rank that they give a marked cell.
 use Rattle.std.specs.Prelude.{ℕ, suc, Bool, cond, List, [], ◌∷◌, length, nat_lt}
 use Rattle.laws.specs.Sums.{sum_of}
-use Rattle.answers.specs.declared.Case.{Case}
-use Rattle.answers.specs.Answers.{case_of}
+use Rattle.answers.specs.Answers.{Case, case_of}
 
 abbrev pub is_mark : ℕ → Bool
 is_mark m = nat_lt m 2

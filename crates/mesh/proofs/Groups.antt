@@ -4,7 +4,7 @@ use mathlib.Core.Path.{◌≡◌, refl, sym, ap, ap₂, subst, ◌∙◌}
 use mathlib.Core.Logic.{⊎_elim}
 use mathlib.Core.Bool.{Bool, true, false, cond}
 use mathlib.Core.List.{List}
-use native.Mathlib.Nat.{suc-mul, mul-le-mul_right, div-add-mod', mod-le, add-zero, mul-one}
+use native.Mathlib.Nat.{suc-mul, mul-le-mul_right, div-add-mod', mod-le, mul-one}
 use native.Mathlib.Numerals.{add-one}
 use native.Mathlib.Omega.{arith}
 use borrow.Author.Tests.{lt-ltb, le-ltb, eq-eqb, eqb-true}
@@ -45,17 +45,14 @@ pub record Lined (t : LineRule) (l : ℕ) (T C : ℕ → Cell) (old counts : Lis
   pub made : (i : ℕ) → i < groups t.side → C i ≡ cond (ltb (line_of t i) l) (ran_on t T i) (T i)
   pub count : (d : ℕ) → d < 8 → get_or counts d 0 ≡ get_or old d 0 + sum l (λ k. sum t.side (λ p. went_from t d p (T (k * line_step t + p * t.stride))))
 
-pub lined_start : (t : LineRule) (T : ℕ → Cell) {old : List ℕ} → length old ≡ 8 → Lined t 0 T T old old
-lined_start t T {old} e = record { upto = omega arith; long = e; made = λ i h. rw (le-ltb (line_of t i) 0 (omega arith)); count = λ d h. sym (add-zero (get_or old d 0)) }
-
 pub lined_few : {t : LineRule} {l : ℕ} {T C : ℕ → Cell} {old counts : List ℕ} → t.side ≤ 8 → Lined t l T C old counts → (d : ℕ) → d < 8 → get_or counts d 0 ≤ get_or old d 0 + 128
 lined_few {t} {l} {T} few z d h =
     let a : (k : ℕ) → sum t.side (λ p. went_from t d p (T (k * line_step t + p * t.stride))) ≤ 16 = λ k.
     omega (arith, few, sum_few (λ p. went_from t d p (T (k * line_step t + p * t.stride))) 2 (λ p. cell_few t d p (T (k * line_step t + p * t.stride))) t.side) in
     omega (arith, z.count d h, z.upto, few, sum_few (λ k. sum t.side (λ p. went_from t d p (T (k * line_step t + p * t.stride)))) 16 a l)
 
-pub line_lies : (t : LineRule) → 0 < t.side → t.side ≤ 8 → 0 < t.stride → Strided t → groups t.side ≤ 64 → (l : ℕ) → l < t.side → Lies t (groups t.side) (l * line_step t)
-line_lies t pos most stride z few l h = record { inside = λ p u. line_in t pos z l p h u; short = few; few = most; stride = stride }
+pub line_lies : (t : LineRule) → 0 < t.side → Strided t → groups t.side ≤ 64 → (l : ℕ) → l < t.side → Lies t (groups t.side) (l * line_step t)
+line_lies t pos z few l h = record { inside = λ p u. line_in t pos z l p h u; short = few }
 
 module _ {t : LineRule} {l : ℕ} {T C C' : ℕ → Cell} {old now₁ : List ℕ} {counts : Lent} (pos : 0 < t.side) (stride : 0 < t.stride) (z : Strided t) (h : l < t.side)
     (y : Lined t l T C old now₁) (r : RanLine t (l * line_step t) counts C C') where

@@ -2,7 +2,7 @@
 use Prim.Native.Nat.{ℕ, zero, suc, ◌+◌, ◌*◌, ◌/◌, ◌%◌, ◌≤◌, ◌<◌, min}
 use mathlib.Core.Path.{◌≡◌, refl, sym, ap, ap₂, subst, ◌∙◌}
 use mathlib.Core.Logic.{◌⊎◌, inl, inr, ⊎_elim}
-use mathlib.Core.Bool.{Bool, true, false, cond, not, ◌&&◌}
+use mathlib.Core.Bool.{Bool, true, false, cond, not}
 use mathlib.Core.List.{List}
 use native.Mathlib.Nat.{add-zero, div-lt_iff_lt-mul}
 use native.Mathlib.Numerals.{add-one}
@@ -20,14 +20,13 @@ use Rattle.laws.proofs.Deciding.{apart, same?}
 use Rattle.laws.proofs.Setting.{get_or_stored}
 use Rattle.slots.specs.declared.Rec.{Rec}
 use Rattle.slots.specs.declared.Cell.{Cell}
-use Rattle.slots.specs.Cells.{empty, joined, cell_at}
+use Rattle.slots.specs.Cells.{empty, joined}
 use Rattle.mesh.specs.declared.lines.LineRule.{LineRule}
 use Rattle.mesh.specs.declared.lines.Arrival.{Arrival}
 use Rattle.mesh.specs.Lines.{head_of, end_of, reach, leaves, none_leaves, is_still, landed, gathered, cells_to_go, went_of, went_from}
-use Rattle.mesh.specs.Inside.{gone_of, slot_of, slot_in, slots_at, Taken, Laid, cells_of, Lands, Arrives, settled, PutDown, RanLine}
+use Rattle.mesh.specs.Inside.{gone_of, slot_of, slot_in, Taken, Laid, cells_of, Lands, Arrives, settled, PutDown, RanLine}
 use Rattle.mesh.proofs.Walking.{leaves-gone}
 use Rattle.mesh.proofs.Ruling.{distance_few}
-use Rattle.mesh.proofs.Slots.{leaves-same}
 use Rattle.mesh.proofs.Spots.{gathered-same}
 
 -- a record without a mark is none
@@ -167,11 +166,6 @@ pub settling_few : {t : LineRule} {U : ℕ → Cell} {k : ℕ} {counts counts' :
 settling_few {t} {U} {k} few z d h =
     omega (arith, z.done.count d h, z.within, few, sum_few (λ i. went_of t d (i / 2) (slot_in U i)) 1 (λ i. went_most t d (i / 2) (slot_in U i)) k)
 
-pub settling_end : {t : LineRule} {U : ℕ → Cell} {k : ℕ} {counts counts' : List ℕ} {line : List Cell} → 2 * t.side ≤ k → Settling t U k counts counts' line → PutDown t U (2 * t.side) counts counts' line
-settling_end {t} {U} {k} {counts} {counts'} {line} h z =
-    let e : k ≡ 2 * t.side = omega (arith, z.within) in
-    rw e at z.done
-
 -- the cell of a slot is one of the line
 pub cell_in : {s n k : ℕ} → k < n → n ≡ 2 * s → s ≤ 8 → (k / 2 < s) × (k / 2 < 8)
 cell_in {s} {n} {k} h e few =
@@ -247,8 +241,3 @@ ran_still {t} {start} {T} {counts} still e = record {
 
     none : (d p : ℕ) → p < t.side → went_from t d p (T (start + p * t.stride)) ≡ 0
     none d p h = rw ((stays p h).0, (stays p h).1)
-
--- whether a line is still, by the marks and aims of its slots
-pub still_told : (t : LineRule) (start : ℕ) (w m a w₂ m₂ a₂ : List ℕ)
-    → none_leaves t (slots_at t start m a) t.side && none_leaves t (slots_at t start m₂ a₂) t.side ≡ is_still t (λ q. cell_at w m a w₂ m₂ a₂ (start + q * t.stride))
-still_told t start w m a w₂ m₂ a₂ = ap₂ ◌&&◌ (leaves-same t _ _ t.side (λ p h. (refl, refl))) (leaves-same t _ _ t.side (λ p h. (refl, refl)))

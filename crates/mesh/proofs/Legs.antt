@@ -2,20 +2,21 @@
 use Prim.Native.Nat.{ℕ, zero, suc, ◌+◌, ◌*◌, ◌≤◌, ◌<◌}
 use mathlib.Core.Path.{◌≡◌, refl, sym, ap, ◌∙◌}
 use mathlib.Core.Logic.{◌⊎◌, inl, inr}
-use mathlib.Core.Bool.{Bool, true, false}
+use mathlib.Core.Bool.{Bool, true, false, ◌||◌}
 use native.Mathlib.Nat.{mul-pos, mul-le-mul}
 use native.Mathlib.Omega.{arith}
+use borrow.Author.Tests.{eq-eqb}
+use Rattle.std.proofs.Math.Bool.{or-true}
+use lib.Dec.{eqb}
 use lib.ListN.{get_or, replicate}
-use Rattle.laws.proofs.Bools.{never}
 use Rattle.array.specs.declared.moves.Way.{Way}
 use Rattle.array.specs.declared.moves.Way.TheVariants.{Right, Left, Up, Down}
-use Rattle.array.specs.Cells.{is_side, groups, cells, group, place}
-use Rattle.array.proofs.Board.{Side, side_known, cell-group-place, place_in, group_in}
+use Rattle.array.specs.Cells.{groups, cells, group, place}
+use Rattle.array.proofs.Board.{Side, cell-group-place, place_in, group_in}
 use Rattle.slots.specs.declared.Cell.{Cell}
-use Rattle.mesh.specs.declared.lines.LineRule.{LineRule}
 use Rattle.mesh.specs.declared.Leg.{Leg}
-use Rattle.mesh.specs.Mesh.{stride_of, unit_of, line_rule_of, ran_on, RanLanes}
-use Rattle.mesh.specs.Inside.{share_of, Ruled, Strided}
+use Rattle.mesh.specs.Mesh.{stride_of, unit_of, line_rule_of, ran_on}
+use Rattle.mesh.specs.Inside.{is_strided}
 use Rattle.mesh.proofs.Spots.{ran-part}
 use Rattle.mesh.proofs.Groups.{part_fits}
 
@@ -33,7 +34,7 @@ module _ {s : ℕ} (k : Side s) where
   stride_few Up = k.most
   stride_few Down = k.most
 
-  unit_pos : (low : Bool) (w : Way) → 0 < unit_of s low (stride_of s w)
+  pub unit_pos : (low : Bool) (w : Way) → 0 < unit_of s low (stride_of s w)
   unit_pos true w = stride-pos w
   unit_pos false w = mul-pos (stride-pos w) k.groups-pos
 
@@ -50,20 +51,15 @@ strided s Left = inl refl
 strided s Up = inr refl
 strided s Down = inr refl
 
-pub ruled : (l : Leg) {t : LineRule} {share : ℕ} → is_side l.side ≡ true → t ≡ line_rule_of l → share ≡ share_of (t.side * t.unit) → Ruled t share × Strided t
-ruled l {t} {share} side e f =
-    let k = side_known l.side side in
-    rw e (
-      record {
-        side = side;
-        unit = unit_pos k l.low l.way;
-        few = (period_few k l.low l.way).1;
-        stride = stride-pos k l.way;
-        shared = f ∙ ap (λ (r : LineRule). share_of (r.side * r.unit)) e;
-        within = omega arith;
-      },
-      strided l.side l.way,
-    )
+-- the facts of the board's rule
+pub strided_leg : (l : Leg) → is_strided (line_rule_of l) ≡ true
+strided_leg l = go l.side l.way
+  where
+    go : (s : ℕ) (w : Way) → (eqb (stride_of s w) 1 || eqb (stride_of s w) s) ≡ true
+    go s Right = refl
+    go s Left = refl
+    go s Up = rw (eq-eqb s s refl) (or-true (eqb s 1))
+    go s Down = rw (eq-eqb s s refl) (or-true (eqb s 1))
 
 -- a run looks at the cells of the board only
 pub ran-same : (l : Leg) → 0 < l.side → (T U : ℕ → Cell) → ((i : ℕ) → i < cells l.side → T i ≡ U i) → (i : ℕ) → i < cells l.side → ran_on (line_rule_of l) T i ≡ ran_on (line_rule_of l) U i
@@ -85,6 +81,3 @@ pub no_counts : (n d : ℕ) → ◌≡◌ {A = ℕ} (get_or (replicate n 0) d 0)
 no_counts zero d = refl
 no_counts (suc n) zero = refl
 no_counts (suc n) (suc d) = no_counts n d
-
-pub ran-none : {lanes : Bool} {t : LineRule} {T : ℕ → Cell} → lanes ≡ false → RanLanes lanes t (replicate 8 0) T T
-ran-none e = record { made = λ h. absurd (never h e); went = λ h. absurd (never h e); kept = λ h i. refl; none = λ h d u. no_counts 8 d }

@@ -53,21 +53,6 @@ module _ (a k : ℕ) (l y : List ℕ) (h : a + k ≤ length l) (e : length y ≡
       ∙ get_or-drop a l (k + d) 0
       ∙ ap (λ (n : ℕ). get_or l n 0) q
 
--- lanes whose lengths were kept
-pub kept_sized : {n : ℕ} {w m a w₂ m₂ a₂ y u v y₂ u₂ v₂ : List ℕ} → Sized n w m a w₂ m₂ a₂ → length y ≡ length w → length u ≡ length m → length v ≡ length a → length y₂ ≡ length w₂ → length u₂ ≡ length m₂ → length v₂ ≡ length a₂ → Sized n y u v y₂ u₂ v₂
-kept_sized z e f g e₂ f₂ g₂ = record {
-  words = e ∙ z.words;
-  marks = f ∙ z.marks;
-  aims = g ∙ z.aims;
-  words2 = e₂ ∙ z.words2;
-  marks2 = f₂ ∙ z.marks2;
-  aims2 = g₂ ∙ z.aims2;
-}
-
--- a place of a lane
-pub in_lane : {i n l : ℕ} → i < n → l ≡ n → i < l
-in_lane h e = omega arith
-
 pub part_sized : {w m a w₂ m₂ a₂ : List ℕ} {L : ℕ} (base k : ℕ) → Sized L w m a w₂ m₂ a₂ → base + k ≤ L → Sized k (part base k w) (part base k m) (part base k a) (part base k w₂) (part base k m₂) (part base k a₂)
 part_sized {w} {m} {a} {w₂} {m₂} {a₂} base k z f = record {
   words = part_long base k w (omega arith);

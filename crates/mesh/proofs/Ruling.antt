@@ -1,49 +1,52 @@
--- What a rule of a board is known by: the digit of an aim by a product, and that its numbers are small.
-use Prim.Native.Nat.{ℕ, ◌-◌, ◌*◌, ◌/◌, ◌%◌, ◌≤◌, ◌<◌}
+-- What the rule of a board is known by: the digit of an aim by a product, and that its numbers are small.
+use Prim.Native.Nat.{ℕ, ◌-◌, ◌*◌, ◌/◌, ◌%◌, ◌<◌}
 use mathlib.Core.Path.{◌≡◌, sym, ap, ◌∙◌}
 use mathlib.Core.Bool.{Bool, true, false, cond}
-use native.Mathlib.Nat.{mod-lt, mul-pos, mul-le-mul_right}
+use mathlib.Core.Logic.{inl, inr, ⊎_elim}
+use native.Mathlib.Nat.{mod-lt, mul-pos}
 use native.Mathlib.Omega.{arith}
-use borrow.Author.Tests.{eq-eqb, ne_eqb}
+use borrow.Author.Tests.{eq-eqb, ne_eqb, eqb-true}
 use lib.Dec.{ltb}
+use Rattle.laws.proofs.Deciding.{same?}
 use Rattle.array.proofs.Board.{Side, side_known}
 use Rattle.slots.specs.declared.Rec.{Rec}
 use Rattle.mesh.specs.declared.lines.LineRule.{LineRule}
-use Rattle.mesh.specs.Lines.{digit_of, head_of, reach, leaves, cells_to_go}
-use Rattle.mesh.specs.Inside.{gone_of, Ruled}
-use Rattle.mesh.proofs.Fractions.{digit_told, share_fits}
-use Rattle.mesh.proofs.Walking.{leaves-gone, ends_in}
+use Rattle.mesh.specs.declared.lines.BoardRule.{BoardRule}
+use Rattle.mesh.specs.Lines.{digit_of, head_of, leaves, cells_to_go}
+use Rattle.mesh.specs.Inside.{gone_of, Strided, is_strided}
+use Rattle.mesh.proofs.Fractions.{digit_told}
+use Rattle.mesh.proofs.Walking.{leaves-gone}
 
-module _ {t : LineRule} {share : ℕ} (z : Ruled t share) where
+-- a line is a row or a column of a group
+pub strided_by : (t : LineRule) → is_strided t ≡ true → Strided t
+strided_by t e = ⊎_elim (λ f. inl f) (λ d. inr (eqb-true t.stride t.side (rw (ne_eqb t.stride 1 d) at e))) (same? t.stride 1)
+
+module _ (by : BoardRule) where
+  abbrev t : LineRule
+  t = by.rule
+
+  abbrev share : ℕ
+  share = by.share
+
+  pub strided : Strided t
+  strided = strided_by t by.strided
+
   pub known : Side t.side
-  known = side_known t.side z.side
+  known = side_known t.side by.side
 
   period_pos : 0 < t.side * t.unit
-  period_pos = mul-pos known.least z.unit
-
-  pub aim_fits : (x : ℕ) → x < 65536 → x * share < 18446744073709551616
-  aim_fits x h = rw z.shared (share_fits x (t.side * t.unit) period_pos z.few h)
-
-  pub part_fits : (x : ℕ) → x * share % 4294967296 * t.side < 18446744073709551616
-  part_fits x =
-      let a : x * share % 4294967296 < 4294967296 = mod-lt (x * share) (omega arith) in
-      let b : x * share % 4294967296 * t.side ≤ 4294967296 * t.side = mul-le-mul_right t.side (omega arith) in
-      omega (arith, b, known.most)
+  period_pos = mul-pos known.least by.unit
 
   pub digit_by : (x : ℕ) → x < 65536 → x * share % 4294967296 * t.side / 4294967296 ≡ digit_of t.side t.unit x
-  digit_by x h = rw z.shared (digit_told x t.side t.unit known.least z.unit period_pos z.few h)
+  digit_by x h = ap (λ (k : ℕ). x * k % 4294967296 * t.side / 4294967296) by.shared ∙ digit_told x t.side t.unit known.least by.unit period_pos by.few h
 
   pub digit_in : (x : ℕ) → digit_of t.side t.unit x < t.side
   digit_in x = mod-lt (x / t.unit) known.least
 
-  -- a record of a cell of the line ends on the line
-  pub end_in : (p : ℕ) (x : Rec) → p < t.side → reach t (head_of t x) p t.made < t.side
-  end_in p x h = ends_in t (head_of t x) p z.within t.side h (digit_in x.aim)
-
   -- a record leaves that goes at least one cell
   pub leaves-marked : (p : ℕ) (x : Rec) → (x.mark ≡ 0 → ⊥) → leaves t p x ≡ ltb 0 (gone_of t (cells_to_go t p (head_of t x)))
   unfolding leaves
-  leaves-marked p x m = rw (ne_eqb x.mark 0 m) (leaves-gone t (head_of t x) p z.within)
+  leaves-marked p x m = rw (ne_eqb x.mark 0 m) (leaves-gone t (head_of t x) p by.within)
 
   -- the same of numbers that the code has
   pub goes_by : (p : ℕ) {h d on : ℕ} (word mark aim : ℕ) → (mark ≡ 0 → ⊥) → h ≡ digit_of t.side t.unit aim → d ≡ cells_to_go t p h → on ≡ gone_of t d

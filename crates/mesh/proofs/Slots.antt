@@ -1,6 +1,6 @@
 -- The slots of a line, cell after cell: looked at, taken out of their lanes, laid back.
-use Prim.Native.Nat.{ℕ, zero, suc, ◌+◌, ◌*◌, ◌≤◌, ◌<◌}
-use mathlib.Core.Path.{◌≡◌, refl, sym, ap, ◌∙◌}
+use Prim.Native.Nat.{ℕ, zero, suc, ◌+◌, ◌*◌, ◌<◌}
+use mathlib.Core.Path.{◌≡◌, refl, sym, ◌∙◌}
 use mathlib.Core.Logic.{⊎_elim}
 use mathlib.Core.Bool.{Bool, true, false, cond, not, ◌&&◌}
 use mathlib.Core.List.{List}
@@ -9,14 +9,13 @@ use native.Mathlib.Numerals.{add-one}
 use native.Mathlib.Omega.{arith}
 use borrow.Author.Tests.{eq-eqb, ne_eqb, not-true, not-false}
 use lib.Dec.{eqb}
-use lib.ListN.{length, get_or, set, length-set}
+use lib.ListN.{length, get_or}
 use Rattle.laws.proofs.Deciding.{apart}
-use Rattle.laws.proofs.Setting.{get_or_stored}
 use Rattle.slots.specs.declared.Rec.{Rec}
 use Rattle.slots.specs.Cells.{nothing}
 use Rattle.mesh.specs.declared.lines.LineRule.{LineRule}
 use Rattle.mesh.specs.Lines.{leaves, none_leaves}
-use Rattle.mesh.specs.Inside.{Taken, Laid}
+use Rattle.mesh.specs.Inside.{Laid}
 
 -- two cells of a line are apart
 pub distinct : {stride : ℕ} → 0 < stride → (start q p : ℕ) → (q ≡ p → ⊥) → start + q * stride ≡ start + p * stride → ⊥
@@ -48,9 +47,6 @@ pub leaves-start : (t : LineRule) (S : ℕ → Rec) → none_leaves t S 0 ≡ tr
 unfolding none_leaves
 leaves-start t S = refl
 
-pub leaves_all : (t : LineRule) (S : ℕ → Rec) {p n : ℕ} → none_leaves t S p ≡ true → n ≤ p → p ≤ n → none_leaves t S n ≡ true
-leaves_all t S {p} {n} e h k = ap (none_leaves t S) (omega arith) ∙ e
-
 -- of two slots the first is enough, and else the second tells
 pub told_first : (a b : Bool) {x : Bool} → x ≡ not a → x ≡ true → true ≡ not (a && b)
 told_first a b e f = rw (not-true a (sym e ∙ f))
@@ -69,25 +65,6 @@ pub record Taking (t : LineRule) (start p : ℕ) (S : ℕ → Rec) (line : List 
   pub long : length line ≡ 8
   pub is : (q : ℕ) → q < p → get_or line q nothing ≡ S (start + q * t.stride)
 
-pub taking-start : (t : LineRule) (start : ℕ) (S : ℕ → Rec) {line : List Rec} → length line ≡ 8 → Taking t start 0 S line
-taking-start t start S e = record { long = e; is = λ q h. absurd (omega arith) }
-
-pub taking_step : {t : LineRule} {start p : ℕ} {S : ℕ → Rec} (line : List Rec) → p < 8 → Taking t start p S line → Taking t start (p + 1) S (set line p (S (start + p * t.stride)))
-taking_step {t} {start} {p} {S} line h z =
-    let x = S (start + p * t.stride) in
-    record {
-      long = length-set line p x ∙ z.long;
-      is = λ q u. get_or_stored line p q x nothing (omega (arith, z.long))
-          ∙ ⊎_elim (λ l. rw (ne_eqb q p (λ e. omega arith)) (z.is q l)) (λ l. let e : q ≡ p = omega arith in rw (eq-eqb q p e, e)) (apart q p);
-    }
-
-pub taking-end : {t : LineRule} {start p : ℕ} {S : ℕ → Rec} {line : List Rec} → t.side ≤ p → Taking t start p S line → Taken t start S line
-taking-end h z = record { is = λ q u. z.is q (omega arith) }
-
--- the slots of the first p cells were laid
-pub laid_start : (t : LineRule) (start : ℕ) (x S : ℕ → Rec) → Laid t start 0 x S S
-laid_start t start x S = record { made = λ p h. absurd (omega arith); kept = λ j d. refl }
-
 pub laid_step : {t : LineRule} {start p : ℕ} {x S S' S'' : ℕ → Rec} {y : Rec} → 0 < t.stride → y ≡ x p → ((j : ℕ) → S'' j ≡ cond (eqb j (start + p * t.stride)) y (S' j))
     → Laid t start p x S S' → Laid t start (p + 1) x S S''
 laid_step {t} {start} {p} {x} {S} {S'} {S''} pos f y z = record {
@@ -103,6 +80,3 @@ laid_step {t} {start} {p} {x} {S} {S'} {S''} pos f y z = record {
 
     other : (j : ℕ) → (j ≡ at → ⊥) → S'' j ≡ S' j
     other j d = y j ∙ rw (ne_eqb j at d)
-
-pub laid_end : {t : LineRule} {start p : ℕ} {x S S' : ℕ → Rec} → t.side ≤ p → p ≤ t.side → Laid t start p x S S' → Laid t start t.side x S S'
-laid_end h k z = record { made = λ q u. z.made q (omega arith); kept = λ j d. z.kept j (λ q u. d q (omega arith)) }

@@ -221,9 +221,6 @@ module _ (t : LineRule) (h p : ℕ) where
 
 -- the same of numbers that the code has
 module _ (t : LineRule) (h p : ℕ) {d on : ℕ} (within : t.made ≤ t.times) (e : d ≡ cells_to_go t p h) (f : on ≡ gone_of t d) where
-  pub ending_few : on ≤ cells_to_go t p h
-  ending_few = omega (arith, f ∙ ap (gone_of t) e, gone-far t h p within)
-
   ending_up : p < t.side → h < t.side → p < h → (p + on ≡ reach t h p t.made) × (p + on < t.side)
   ending_up i j l =
       let z : p + on ≡ reach t h p t.made = ap (λ (n : ℕ). p + n) (f ∙ ap (gone_of t) e) ∙ sym (ends_up t h p within l) in
@@ -233,14 +230,6 @@ module _ (t : LineRule) (h p : ℕ) {d on : ℕ} (within : t.made ≤ t.times) (
   ending_down {r} i j l g =
       let z : r ≡ reach t h p t.made = g ∙ ap (λ (n : ℕ). p - n) (f ∙ ap (gone_of t) e) ∙ sym (ends_down t h p within l) in
       (z, omega (arith, z, ends_in t h p within t.side i j))
-
-  -- of what it goes some is up the line: all, or nothing
-  pub ending_some : {up : ℕ} → up ≡ cond (ltb p h) on 0 → up ≤ on
-  ending_some {up} e = go (ltb p h) e
-    where
-      go : (b : Bool) → up ≡ cond b on 0 → up ≤ on
-      go true g = omega arith
-      go false g = omega arith
 
   pub ending_at : {up r : ℕ} → p < t.side → h < t.side → up ≡ cond (ltb p h) on 0 → r ≡ p + up - (on - up) → (r ≡ reach t h p t.made) × (r < t.side)
   ending_at {up} {r} i j k g =

@@ -1,11 +1,13 @@
 -- What private functions' contracts cite; the public contracts are read without it.
-use Rattle.std.specs.Prelude.{ℕ, zero, suc, ◌+◌, ◌-◌, ◌*◌, ◌/◌, ◌%◌, ◌≤◌, ◌<◌, min, ◌≡◌, Bool, true, false, cond, ◌⊎◌, List, eqb, length, get_or}
+use Rattle.std.specs.Prelude.{ℕ, zero, suc, ◌+◌, ◌-◌, ◌*◌, ◌/◌, ◌%◌, ◌≤◌, ◌<◌, min, ◌≡◌, Bool, true, false, cond, ◌⊎◌, ◌||◌, List, eqb, length, get_or}
 use Rattle.laws.specs.Lent.{Slice, Lent, old, new}
 use Rattle.laws.specs.Sums.{sum}
-use Rattle.array.specs.Cells.{is_side, groups}
+use Rattle.array.specs.declared.lent.LentSlots.{LentSlots}
+use Rattle.array.specs.declared.lent.LentLanes.{LentLanes}
+use Rattle.array.specs.Cells.{groups}
 use Rattle.slots.specs.declared.Rec.{Rec}
 use Rattle.slots.specs.declared.Cell.{Cell}
-use Rattle.slots.specs.Cells.{nothing, empty, joined, record_in}
+use Rattle.slots.specs.Cells.{nothing, empty, joined}
 use Rattle.mesh.specs.declared.lines.LineRule.{LineRule}
 use Rattle.mesh.specs.declared.lines.Arrival.{Arrival}
 use Rattle.mesh.specs.Lines.{reach, landed, ran_line, cells_to_go, went_of, went_from}
@@ -19,25 +21,18 @@ share_of d = 4294967296 / d + 1
 abbrev pub gone_of : LineRule → ℕ → ℕ
 gone_of t d = cond t.late (t.made - (t.times - d)) (min d t.made)
 
--- all that a run is made by: the rule is one of a board, and the share that of its digit
-pub record Ruled (t : LineRule) (share : ℕ) : Type 0 where
-  pub side : is_side t.side ≡ true
-  pub unit : 0 < t.unit
-  pub few : t.side * t.unit ≤ 4096
-  pub stride : 0 < t.stride
-  pub shared : share ≡ share_of (t.side * t.unit)
-  pub within : t.made ≤ t.times
-
 -- the line from a cell on lies within n cells
 pub record Lies (t : LineRule) (n start : ℕ) : Type 0 where
   pub inside : (p : ℕ) → p < t.side → start + p * t.stride < n
   pub short : n ≤ 64
-  pub few : t.side ≤ 8
-  pub stride : 0 < t.stride
 
 -- a line is a row or a column of a group
 abbrev pub Strided : LineRule → Type 0
 Strided t = (t.stride ≡ 1) ⊎ (t.stride ≡ t.side)
+
+-- the same as a test, which has one proof at most
+abbrev pub is_strided : LineRule → Bool
+is_strided t = eqb t.stride 1 || eqb t.stride t.side
 
 -- from one line of a group to the next
 abbrev pub line_step : LineRule → ℕ
@@ -52,15 +47,19 @@ pub record Roomy (most : ℕ) (counts : Slice) : Type 0 where
   pub long : length counts.now ≡ 8
   pub room : (d : ℕ) → d < 8 → get_or counts.now d 0 ≤ most
 
--- the records of a line's slots by their marks and aims alone
-abbrev pub slots_at : LineRule → ℕ → List ℕ → List ℕ → ℕ → Rec
-slots_at t start marks aims p = record { word = 0; mark = get_or marks (start + p * t.stride) 0; aim = get_or aims (start + p * t.stride) 0 }
+-- the line from a cell on lies within the three lanes of a slot, and of both
+pub record LineIn (t : LineRule) (start : ℕ) (slots : LentSlots) : Type 0 where
+  pub lies : Lies t (length slots.words.now) start
+  pub marks : length slots.marks.now ≡ length slots.words.now
+  pub aims : length slots.aims.now ≡ length slots.words.now
 
--- the three lanes of a slot have n cells
-pub record HasSlots (n : ℕ) (w m a : List ℕ) : Type 0 where
-  pub words : length w ≡ n
-  pub marks : length m ≡ n
-  pub aims : length a ≡ n
+pub record LinesIn (t : LineRule) (start : ℕ) (lanes : LentLanes) : Type 0 where
+  pub front : LineIn t start lanes.front.now
+  pub spare : LineIn t start lanes.spare.now
+
+-- what the cells of the line from a cell on hold, or one of their slots
+abbrev pub line_at : {A : Type 0} → LineRule → ℕ → (ℕ → A) → ℕ → A
+line_at t start T p = T (start + p * t.stride)
 
 -- the record of a slot
 abbrev pub slot_of : Bool → Cell → Rec
@@ -71,17 +70,13 @@ slot_of false c = c.front
 pub record Taken (t : LineRule) (start : ℕ) (S : ℕ → Rec) (r : List Rec) : Type 0 where
   pub is : (p : ℕ) → p < t.side → get_or r p nothing ≡ S (start + p * t.stride)
 
-abbrev pub TakenSlots : LineRule → ℕ → List ℕ → List ℕ → List ℕ → List Rec → Type 0
-TakenSlots t start w m a r = Taken t start (record_in w m a) r
-
 -- they were laid, and nothing else changed
 pub record Laid (t : LineRule) (start n : ℕ) (x : ℕ → Rec) (S S' : ℕ → Rec) : Type 0 where
   pub made : (p : ℕ) → p < n → S' (start + p * t.stride) ≡ x p
   pub kept : (j : ℕ) → ((p : ℕ) → p < n → j ≡ start + p * t.stride → ⊥) → S' j ≡ S j
 
-abbrev pub LaidSlots : LineRule → ℕ → Bool → List Cell → Lent → Lent → Lent → Type 0
-LaidSlots t start spare line w m a =
-    Laid t start t.side (λ p. slot_of spare (get_or line p empty)) (record_in (old w) (old m) (old a)) (record_in (new w) (new m) (new a))
+abbrev pub LaidSlots : LineRule → ℕ → Bool → List Cell → (ℕ → Rec) → (ℕ → Rec) → Type 0
+LaidSlots t start spare line S S' = Laid t start t.side (λ p. slot_of spare (get_or line p empty)) S S'
 
 -- the cells of a line by its slots
 abbrev pub cells_of : List Rec → List Rec → ℕ → Cell

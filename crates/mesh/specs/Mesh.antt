@@ -4,6 +4,7 @@ use Rattle.laws.specs.Sums.{sum}
 use Rattle.array.specs.declared.moves.Way.{Way}
 use Rattle.array.specs.declared.moves.Way.TheVariants.{Right, Left, Up, Down}
 use Rattle.array.specs.Cells.{groups, cells}
+use Rattle.array.specs.Lent.{PassedLanes, of_lanes}
 use Rattle.laws.specs.Lent.{Lent}
 use Rattle.light.specs.Lanes.{have_board}
 use Rattle.slots.specs.declared.Cell.{Cell}
@@ -77,3 +78,6 @@ pub record RanLanes (lanes : Bool) (t : LineRule) (r : List ℕ) (T T' : ℕ →
 
 abbrev pub RanAll : Leg → Lent → Lent → Lent → Lent → Lent → Lent → List ℕ → Type 0
 RanAll l w m a w₂ m₂ a₂ r = FromTo (RanLanes (have_board l.side w m a w₂ m₂ a₂) (line_rule_of l) r) w m a w₂ m₂ a₂
+
+abbrev pub RanAllLent : Leg → PassedLanes → List ℕ → Type 0
+RanAllLent l lanes r = of_lanes (λ w m a w₂ m₂ a₂. RanAll l w m a w₂ m₂ a₂ r) lanes

@@ -1,59 +1,41 @@
 // The slots of a line, the front ones or the spare ones: looked at, taken out of their three lanes and laid back.
-ghost use Rattle.std.specs.Prelude.{◌≡◌, not, length};
-ghost use Rattle.laws.specs.Lent.{old};
+ghost use Rattle.std.specs.Prelude.{◌≡◌, not};
+ghost use Rattle.array.specs.Lent.{SameSlots};
+ghost use Rattle.slots.specs.Lanes.{records_in};
 ghost use Rattle.mesh.specs.Lines.{none_leaves};
-ghost use Rattle.mesh.specs.Inside.{slot_of, slots_at, Ruled, Lies, HasSlots, TakenSlots, LaidSlots};
+ghost use Rattle.mesh.specs.Inside.{slot_of, line_at, LineIn, Taken, LaidSlots};
 
-use crate::lines::{LineRule, goes};
+use crate::lines::{BoardRule, goes};
+use array::lent::LentSlots;
 use slots::{Cell, Rec, empty};
 
 // Whether a record leaves its cell.
-pub(crate) fn any_goes(
-    t: LineRule,
-    share: usize,
-    n: usize,
-    start: usize,
-    marks: &[u8],
-    aims: &[u16],
-) -> bool
-    requires ruled { Ruled t share × Lies t n start }
-    requires marks_len { (length marks.now ≡ n) × (length aims.now ≡ n) }
-    ensures { result ≡ not (none_leaves t (slots_at t start marks.now aims.now) t.side) }
+pub(crate) fn any_goes(by: BoardRule, start: usize, slots: &LentSlots) -> bool
+    requires { LineIn by.rule start slots.now }
+    ensures { result ≡ not (none_leaves by.rule (line_at by.rule start (records_in slots.now)) by.rule.side) }
 {
-    let mut p: usize = 0;
-    while p < t.side {
-        let at = start + p * t.stride;
-        if goes(t, share, p, marks[at], aims[at]) {
+    for p in 0..by.rule.side {
+        let at = start + p * by.rule.stride;
+        if goes(by, p, slots.marks[at], slots.aims[at]) {
             return true;
         }
-        p += 1;
     }
     false
 }
 
-pub(crate) fn take_slots(
-    t: LineRule,
-    n: usize,
-    start: usize,
-    words: &[u32],
-    marks: &[u8],
-    aims: &[u16],
-) -> [Rec; 8]
-    requires lies { Lies t n start }
-    requires has_slots { HasSlots n words.now marks.now aims.now }
-    ensures { TakenSlots t start words.now marks.now aims.now result }
+pub(crate) fn take_slots(by: BoardRule, start: usize, slots: &LentSlots) -> [Rec; 8]
+    requires { LineIn by.rule start slots.now }
+    ensures { Taken by.rule start (records_in slots.now) result }
 {
     let none = empty().front;
     let mut line = [none; 8];
-    let mut p: usize = 0;
-    while p < t.side {
-        let at = start + p * t.stride;
+    for p in 0..by.rule.side {
+        let at = start + p * by.rule.stride;
         line[p] = Rec {
-            word: words[at],
-            mark: marks[at],
-            aim: aims[at],
+            word: slots.words[at],
+            mark: slots.marks[at],
+            aim: slots.aims[at],
         };
-        p += 1;
     }
     line
 }
@@ -66,26 +48,21 @@ pub(crate) fn slot(spare: bool, c: Cell) -> Rec
 }
 
 pub(crate) fn lay_slots(
-    t: LineRule,
-    n: usize,
+    by: BoardRule,
     start: usize,
     spare: bool,
     line: [Cell; 8],
-    words: &mut [u32],
-    marks: &mut [u8],
-    aims: &mut [u16],
+    slots: &mut LentSlots,
 )
-    requires lies { Lies t n start }
-    requires has_slots { HasSlots n words.old marks.old aims.old }
-    ensures { LaidSlots t start spare line words marks aims }
+    requires { LineIn by.rule start slots.old }
+    ensures same { SameSlots slots.old slots.new }
+    ensures laid { LaidSlots by.rule start spare line (records_in slots.old) (records_in slots.new) }
 {
-    let mut p: usize = 0;
-    while p < t.side {
-        let at = start + p * t.stride;
+    for p in 0..by.rule.side {
+        let at = start + p * by.rule.stride;
         let x = slot(spare, line[p]);
-        words[at] = x.word;
-        marks[at] = x.mark;
-        aims[at] = x.aim;
-        p += 1;
+        slots.words[at] = x.word;
+        slots.marks[at] = x.mark;
+        slots.aims[at] = x.aim;
     }
 }

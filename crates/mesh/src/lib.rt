@@ -4,20 +4,20 @@
 mod cells;
 mod lines;
 
-ghost use Rattle.std.specs.Prelude.{◌≡◌, ℕ, ◌+◌, ◌*◌, ◌≤◌};
-ghost use Rattle.array.specs.Cells.{groups, cells};
-ghost use Rattle.slots.specs.Lanes.{FromTo, Long};
-ghost use Rattle.mesh.specs.Mesh.{stride_of, unit_of, goes_up, goes_down, line_rule_of, RanAll};
-ghost use Rattle.mesh.specs.Inside.{share_of, Ruled, Roomy, Strided, line_step, moving_groups, RanGroup, RanPart};
+ghost use Rattle.std.specs.Prelude.{◌≡◌, ℕ, ◌+◌, ◌*◌, ◌≤◌, true};
+ghost use Rattle.array.specs.Cells.{is_side, groups, cells};
+ghost use Rattle.array.specs.Lent.{SameSlots, SameLanes};
+ghost use Rattle.slots.specs.Lanes.{FromTo, Long, cells_in, lent_cells, LongSlots, LongLent};
+ghost use Rattle.mesh.specs.Mesh.{stride_of, unit_of, goes_up, goes_down, line_rule_of, RanAllLent};
+ghost use Rattle.mesh.specs.Inside.{share_of, Roomy, line_step, moving_groups, RanGroup, RanPart};
 
-use crate::lines::{LineRule, run_line};
+use crate::lines::{BoardRule, LineRule, run_line};
+use array::lent::{LentLanes, LentSlots};
 use array::moves::Way;
-use laws::least;
-use light::are_lanes;
 
 // A run one way, as far as it is made: whether a record heads for its aim mod N (low) or div N, whether it goes as late as it can, how many
 // moves the run has and how many of them are made.
-#[derive(Clone, Copy)]
+#[derive(Clone, Copy, Debug, PartialEq, Eq)]
 pub struct Leg {
     pub side: usize,
     pub way: Way,
@@ -33,33 +33,21 @@ fn stride(side: usize, way: Way) -> usize
     ensures { (result ≡ stride_of side way) × (result ≤ 8) }
 {
     match way {
-        Way::Right => 1,
-        Way::Left => 1,
-        Way::Up => side,
-        Way::Down => side,
+        Way::Right | Way::Left => 1,
+        Way::Up | Way::Down => side,
     }
 }
 
 fn goes_up(way: Way) -> bool
     ensures { result ≡ goes_up way }
 {
-    match way {
-        Way::Right => true,
-        Way::Left => false,
-        Way::Up => false,
-        Way::Down => true,
-    }
+    matches!(way, Way::Right | Way::Down)
 }
 
 fn goes_down(way: Way) -> bool
     ensures { result ≡ goes_down way }
 {
-    match way {
-        Way::Right => false,
-        Way::Left => true,
-        Way::Up => true,
-        Way::Down => false,
-    }
+    matches!(way, Way::Left | Way::Up)
 }
 
 // The weight of the digit of an aim that names a cell of a line.
@@ -79,22 +67,34 @@ fn rule_of(leg: Leg) -> LineRule
     let stride = stride(leg.side, way);
     LineRule {
         side: leg.side,
-        stride: stride,
+        stride,
         unit: unit(leg.side, leg.low, stride),
         up: goes_up(way),
         down: goes_down(way),
         late: leg.late,
         times: leg.times,
-        made: least(leg.made, leg.times),
+        made: leg.made.min(leg.times),
     }
 }
 
-// 2^32 over the period of the digit: an aim times it tells, below 2^32, how far along its period the aim is. So a record costs no division.
+// 2^32 over the period of the digit.
 fn share(t: LineRule) -> usize
     requires { (1 ≤ t.side * t.unit) × (t.side * t.unit ≤ 4096) }
     ensures { result ≡ share_of (t.side * t.unit) }
 {
     4294967296 / (t.side * t.unit) + 1
+}
+
+// That rule beside the share of its digit: what every run of a line is made by.
+fn board_rule(leg: Leg) -> BoardRule
+    requires { is_side leg.side ≡ true }
+    ensures { result.rule ≡ line_rule_of leg }
+{
+    let rule = rule_of(leg);
+    BoardRule {
+        rule,
+        share: share(rule),
+    }
 }
 
 // From one line of a group to the next.
@@ -115,10 +115,22 @@ fn moving_groups(t: LineRule) -> usize
     t.side * t.side
 }
 
-// All lines of a group, whose own stretch of the lanes is lent.
+// All lines of a group, of lanes that are its own.
+fn run_lines(by: BoardRule, counts: &mut [usize], lanes: &mut LentLanes)
+    requires roomy { Roomy 16384 counts }
+    requires long { LongLent (groups by.rule.side) lanes.old }
+    ensures same { SameLanes lanes.old lanes.new }
+    ensures ran { RanGroup by.rule counts (lent_cells lanes.old) (lent_cells lanes.new) }
+{
+    let step = line_step(by.rule);
+    for l in 0..by.rule.side {
+        run_line(by, l * step, counts, lanes);
+    }
+}
+
+// The same, where the group's own stretch of each lane is lent.
 fn run_group(
-    t: LineRule,
-    share: usize,
+    by: BoardRule,
     counts: &mut [usize],
     words: &mut [u32],
     marks: &mut [u8],
@@ -127,36 +139,26 @@ fn run_group(
     spare_marks: &mut [u8],
     spare_aims: &mut [u16],
 )
-    requires ruled { Ruled t share × Strided t }
     requires roomy { Roomy 16384 counts }
-    requires long { Long (groups t.side) words marks aims spare_words spare_marks spare_aims }
-    ensures { FromTo (RanGroup t counts) words marks aims spare_words spare_marks spare_aims }
+    requires long { Long (groups by.rule.side) words marks aims spare_words spare_marks spare_aims }
+    ensures { FromTo (RanGroup by.rule counts) words marks aims spare_words spare_marks spare_aims }
 {
-    let n = words.len();
-    let step = line_step(t);
-    let mut l: usize = 0;
-    while l < t.side {
-        run_line(
-            t,
-            share,
-            n,
-            l * step,
-            counts,
-            words,
-            marks,
-            aims,
-            spare_words,
-            spare_marks,
-            spare_aims,
-        );
-        l += 1;
-    }
+    let mut front = LentSlots { words, marks, aims };
+    let mut spare = LentSlots {
+        words: spare_words,
+        marks: spare_marks,
+        aims: spare_aims,
+    };
+    let mut lanes = LentLanes {
+        front: &mut front,
+        spare: &mut spare,
+    };
+    run_lines(by, counts, &mut lanes);
 }
 
-// The same in the group whose stretch of the lanes starts at base.
-fn run_part(
-    t: LineRule,
-    share: usize,
+// The same in the group whose stretches start at base.
+fn run_stretch(
+    by: BoardRule,
     base: usize,
     counts: &mut [usize],
     words: &mut [u32],
@@ -166,17 +168,15 @@ fn run_part(
     spare_marks: &mut [u8],
     spare_aims: &mut [u16],
 )
-    requires ruled { Ruled t share × Strided t }
     requires roomy { Roomy 16384 counts }
-    requires within { base + groups t.side ≤ cells t.side }
-    requires by_index { (g : ℕ) × (base ≡ g * groups t.side) }
-    requires long { Long (cells t.side) words marks aims spare_words spare_marks spare_aims }
-    ensures { FromTo (RanPart t base counts) words marks aims spare_words spare_marks spare_aims }
+    requires within { base + groups by.rule.side ≤ cells by.rule.side }
+    requires by_index { (g : ℕ) × (base ≡ g * groups by.rule.side) }
+    requires long { Long (cells by.rule.side) words marks aims spare_words spare_marks spare_aims }
+    ensures { FromTo (RanPart by.rule base counts) words marks aims spare_words spare_marks spare_aims }
 {
-    let end = base + t.side * t.side;
+    let end = base + by.rule.side * by.rule.side;
     run_group(
-        t,
-        share,
+        by,
         counts,
         &mut words[base..end],
         &mut marks[base..end],
@@ -187,52 +187,49 @@ fn run_part(
     );
 }
 
+// The same of lanes that are lent slot by slot.
+fn run_part(
+    by: BoardRule,
+    base: usize,
+    counts: &mut [usize],
+    front: &mut LentSlots,
+    spare: &mut LentSlots,
+)
+    requires roomy { Roomy 16384 counts }
+    requires within { base + groups by.rule.side ≤ cells by.rule.side }
+    requires by_index { (g : ℕ) × (base ≡ g * groups by.rule.side) }
+    requires long { LongSlots (cells by.rule.side) front.old spare.old }
+    ensures front { SameSlots front.old front.new }
+    ensures spare { SameSlots spare.old spare.new }
+    ensures ran { RanPart by.rule base counts (cells_in front.old spare.old) (cells_in front.new spare.new) }
+{
+    run_stretch(
+        by,
+        base,
+        counts,
+        front.words,
+        front.marks,
+        front.aims,
+        spare.words,
+        spare.marks,
+        spare.aims,
+    );
+}
+
 // A run of electronic moves of a board's six lanes, as far as it is made; how many records went that had 0 to 7 cells to go. Lanes that are not
 // a board's stay as they are.
-pub fn run_all(
-    leg: Leg,
-    words: &mut [u32],
-    marks: &mut [u8],
-    aims: &mut [u16],
-    spare_words: &mut [u32],
-    spare_marks: &mut [u8],
-    spare_aims: &mut [u16],
-) -> [usize; 8]
-    ensures { RanAll leg words marks aims spare_words spare_marks spare_aims result }
+pub fn run_all(leg: Leg, lanes: &mut LentLanes) -> [usize; 8]
+    ensures same { SameLanes lanes.old lanes.new }
+    ensures ran { RanAllLent leg lanes result }
 {
     let mut counts = [0usize; 8];
-    if !are_lanes(
-        leg.side,
-        words.len(),
-        marks.len(),
-        aims.len(),
-        spare_words.len(),
-        spare_marks.len(),
-        spare_aims.len(),
-    ) {
+    if !lanes.fit(leg.side) {
         return counts;
     }
-    let t = rule_of(leg);
-    let share = share(t);
-    let size = t.side * t.side;
-    let groups = moving_groups(t);
-    let mut base: usize = 0;
-    let mut g: usize = 0;
-    while g < groups {
-        run_part(
-            t,
-            share,
-            base,
-            &mut counts[..],
-            words,
-            marks,
-            aims,
-            spare_words,
-            spare_marks,
-            spare_aims,
-        );
-        base += size;
-        g += 1;
+    let by = board_rule(leg);
+    let size = by.rule.side * by.rule.side;
+    for g in 0..moving_groups(by.rule) {
+        run_part(by, g * size, &mut counts[..], lanes.front, lanes.spare);
     }
     counts
 }

@@ -1,18 +1,19 @@
 // A run of moves on one line of cells, a row or a column of a group. Each record is put down where all its moves
 // of the run take it: so no cell ever holds three on the way, whichever way the others go.
-ghost use Rattle.std.specs.Prelude.{◌≡◌, not, ◌&&◌, ℕ, ◌-◌, ◌*◌, ◌<◌, ◌≤◌, min, length};
-ghost use Rattle.laws.specs.Lent.{old, new};
-ghost use Rattle.slots.specs.Lanes.{FromTo, Long};
-ghost use Rattle.mesh.specs.Lines.{digit_of, cells_to_go, leaves, none_leaves};
-ghost use Rattle.mesh.specs.Inside.{share_of, gone_of, cells_of, slots_at, Ruled, Lies, Roomy, Lands, PutDown, RanLine};
+ghost use Rattle.std.specs.Prelude.{◌≡◌, not, ℕ, ◌*◌, ◌<◌, ◌≤◌, true};
+ghost use Rattle.array.specs.Cells.{is_side};
+ghost use Rattle.array.specs.Lent.{SameLanes};
+ghost use Rattle.slots.specs.Lanes.{lent_cells};
+ghost use Rattle.mesh.specs.Lines.{digit_of, cells_to_go, leaves, is_still};
+ghost use Rattle.mesh.specs.Inside.{share_of, is_strided, gone_of, cells_of, line_at, LinesIn, Roomy, Lands, PutDown, RanLine};
 
 use crate::cells::{any_goes, lay_slots, slot, take_slots};
-use laws::{counted, least, over};
+use array::lent::LentLanes;
 use slots::{Cell, Rec, empty, joined};
 
 // What a line goes by: its length, the stride from one cell of it to the next, the weight of the digit of an aim that names a cell of it,
 // whether records go up the line and down it, whether they go as late as they can, how many moves the run has and how many are made.
-#[derive(Clone, Copy)]
+#[derive(Clone, Copy, Debug, PartialEq, Eq)]
 pub(crate) struct LineRule {
     pub(crate) side: usize,
     pub(crate) stride: usize,
@@ -24,18 +25,27 @@ pub(crate) struct LineRule {
     pub(crate) made: usize,
 }
 
-fn wide(x: u16) -> usize
-    ensures { (result ≡ x) × (result < 65536) }
-{
-    x as usize
+// The rule of a board's lines, rows or columns of its groups, and 2^32 over the period of the digit: an aim times this share tells, below 2^32,
+// how far along its period the aim is. So a record costs no division.
+#[derive(Clone, Copy, Debug, PartialEq, Eq)]
+pub(crate) struct BoardRule {
+    pub(crate) rule: LineRule,
+    pub(crate) share: usize,
+    ghost side: { is_side rule.side ≡ true },
+    ghost unit: { 0 < rule.unit },
+    ghost few: { rule.side * rule.unit ≤ 4096 },
+    ghost stride: { 0 < rule.stride },
+    ghost strided: { is_strided rule ≡ true },
+    ghost shared: { share ≡ share_of (rule.side * rule.unit) },
+    ghost within: { rule.made ≤ rule.times },
 }
 
 // The cell of the line that an aim names.
-fn digit(t: LineRule, share: usize, aim: u16) -> usize
-    requires { Ruled t share }
-    ensures { (result ≡ digit_of t.side t.unit aim) × (result < t.side) }
+fn digit(by: BoardRule, aim: u16) -> usize
+    ensures digit { result ≡ digit_of by.rule.side by.rule.unit aim }
+    ensures on_line { result < by.rule.side }
 {
-    wide(aim) * share % 4294967296 * t.side / 4294967296
+    usize::from(aim) * by.share % 4294967296 * by.rule.side / 4294967296
 }
 
 // How many cells a record in cell p has to go that heads for cell h.
@@ -43,12 +53,12 @@ fn distance(t: LineRule, p: usize, h: usize) -> usize
     ensures { result ≡ cells_to_go t p h }
 {
     if p < h {
-        if t.up {
-            return h - p;
-        }
-        return 0;
+        if t.up { h - p } else { 0 }
+    } else if t.down {
+        p - h
+    } else {
+        0
     }
-    if t.down { p - h } else { 0 }
 }
 
 // How many of them it goes in the moves that are made: as many as these are, or going late as many as are left once it sets off.
@@ -56,13 +66,14 @@ fn gone(t: LineRule, d: usize) -> usize
     ensures { result ≡ gone_of t d }
 {
     if t.late {
-        return over(t.made, over(t.times, d));
+        t.made.saturating_sub(t.times.saturating_sub(d))
+    } else {
+        d.min(t.made)
     }
-    least(d, t.made)
 }
 
 // Where a record is after the moves that are made: how far it had to go, the cell, and 1 where that is another.
-#[derive(Clone, Copy)]
+#[derive(Clone, Copy, Debug, PartialEq, Eq)]
 struct Arrival {
     far: usize,
     at: usize,
@@ -70,51 +81,40 @@ struct Arrival {
 }
 
 // The landing of a record of cell p that heads for cell h: all that it goes is up the line, or all of it down. No branch hangs on that.
-fn landing(t: LineRule, p: usize, h: usize) -> Arrival
-    requires on_line { (p < t.side) × (h < t.side) }
-    requires few { (t.side ≤ 8) × (t.made ≤ t.times) }
-    ensures { Lands t p h result }
+fn landing(by: BoardRule, p: usize, h: usize) -> Arrival
+    requires { (p < by.rule.side) × (h < by.rule.side) }
+    ensures { Lands by.rule p h result }
 {
-    let far = distance(t, p, h);
-    let on = gone(t, far);
-    let up = counted(p < h, on);
+    let far = distance(by.rule, p, h);
+    let on = gone(by.rule, far);
+    let up = if p < h { on } else { 0 };
     let down = on - up;
     Arrival {
-        far: far,
-        at: over(p + up, down),
-        went: least(on, 1),
+        far,
+        at: (p + up).saturating_sub(down),
+        went: on.min(1),
     }
 }
 
 // Whether a record of this mark and aim leaves cell p.
-pub(crate) fn goes(t: LineRule, share: usize, p: usize, mark: u8, aim: u16) -> bool
-    requires { Ruled t share }
-    ensures { (word : ℕ) → result ≡ leaves t p (record { word = word; mark = mark; aim = aim }) }
+pub(crate) fn goes(by: BoardRule, p: usize, mark: u8, aim: u16) -> bool
+    ensures { (word : ℕ) → result ≡ leaves by.rule p (record { word = word; mark = mark; aim = aim }) }
 {
     if mark == 0 {
         return false;
     }
-    0 < gone(t, distance(t, p, digit(t, share, aim)))
+    0 < gone(by.rule, distance(by.rule, p, digit(by, aim)))
 }
 
 // The line after all moves of the run, of the records in its front slots and in its spare ones: each is put down where its moves take it, and
 // those that went are counted by the cells that they had to go.
-fn put_line(
-    t: LineRule,
-    share: usize,
-    fronts: [Rec; 8],
-    spares: [Rec; 8],
-    counts: &mut [usize],
-) -> [Cell; 8]
-    requires ruled { Ruled t share }
-    requires roomy { Roomy 65536 counts }
-    ensures { PutDown t (cells_of fronts spares) (2 * t.side) counts.old counts.new result }
+fn put_line(by: BoardRule, fronts: [Rec; 8], spares: [Rec; 8], counts: &mut [usize]) -> [Cell; 8]
+    requires { Roomy 65536 counts }
+    ensures { PutDown by.rule (cells_of fronts spares) (2 * by.rule.side) counts.old counts.new result }
 {
     let none = empty();
     let mut line = [none; 8];
-    let n = 2 * t.side;
-    let mut k: usize = 0;
-    while k < n {
+    for k in 0..2 * by.rule.side {
         let p = k / 2;
         let own = Cell {
             front: fronts[p],
@@ -122,72 +122,36 @@ fn put_line(
         };
         let x = slot(k % 2 == 1, own);
         if x.mark != 0 {
-            let arrival = landing(t, p, digit(t, share, x.aim));
+            let arrival = landing(by, p, digit(by, x.aim));
             let far = arrival.far;
             let at = arrival.at;
             counts[far] += arrival.went;
             line[at] = joined(line[at], x);
         }
-        k += 1;
     }
     line
 }
 
 // Whether a record leaves a cell of the line.
-fn line_goes(
-    t: LineRule,
-    share: usize,
-    n: usize,
-    start: usize,
-    marks: &[u8],
-    aims: &[u16],
-    spare_marks: &[u8],
-    spare_aims: &[u16],
-) -> bool
-    requires ruled { Ruled t share × Lies t n start }
-    requires marks_len { (length marks.now ≡ n) × (length aims.now ≡ n) }
-    requires spare_marks_len { (length spare_marks.now ≡ n) × (length spare_aims.now ≡ n) }
-    ensures { result ≡ not (none_leaves t (slots_at t start marks.now aims.now) t.side && none_leaves t (slots_at t start spare_marks.now spare_aims.now) t.side) }
+fn line_goes(by: BoardRule, start: usize, lanes: &LentLanes) -> bool
+    requires { LinesIn by.rule start lanes.now }
+    ensures { result ≡ not (is_still by.rule (line_at by.rule start (lent_cells lanes.now))) }
 {
-    if any_goes(t, share, n, start, marks, aims) {
-        return true;
-    }
-    any_goes(t, share, n, start, spare_marks, spare_aims)
+    any_goes(by, start, lanes.front) || any_goes(by, start, lanes.spare)
 }
 
 // All moves of the run on the line that starts at a cell. A line that nothing leaves is left alone.
-pub(crate) fn run_line(
-    t: LineRule,
-    share: usize,
-    n: usize,
-    start: usize,
-    counts: &mut [usize],
-    words: &mut [u32],
-    marks: &mut [u8],
-    aims: &mut [u16],
-    spare_words: &mut [u32],
-    spare_marks: &mut [u8],
-    spare_aims: &mut [u16],
-)
-    requires ruled { Ruled t share × Lies t n start }
+pub(crate) fn run_line(by: BoardRule, start: usize, counts: &mut [usize], lanes: &mut LentLanes)
+    requires lines { LinesIn by.rule start lanes.old }
     requires roomy { Roomy 65536 counts }
-    requires long { Long n words marks aims spare_words spare_marks spare_aims }
-    ensures { FromTo (RanLine t start counts) words marks aims spare_words spare_marks spare_aims }
+    ensures same { SameLanes lanes.old lanes.new }
+    ensures ran { RanLine by.rule start counts (lent_cells lanes.old) (lent_cells lanes.new) }
 {
-    if line_goes(t, share, n, start, marks, aims, spare_marks, spare_aims) {
-        let fronts = take_slots(t, n, start, words, marks, aims);
-        let spares = take_slots(t, n, start, spare_words, spare_marks, spare_aims);
-        let line = put_line(t, share, fronts, spares, counts);
-        lay_slots(t, n, start, false, line, words, marks, aims);
-        lay_slots(
-            t,
-            n,
-            start,
-            true,
-            line,
-            spare_words,
-            spare_marks,
-            spare_aims,
-        );
+    if line_goes(by, start, lanes) {
+        let fronts = take_slots(by, start, lanes.front);
+        let spares = take_slots(by, start, lanes.spare);
+        let line = put_line(by, fronts, spares, counts);
+        lay_slots(by, start, false, line, lanes.front);
+        lay_slots(by, start, true, line, lanes.spare);
     }
 }

@@ -3,7 +3,6 @@ use Prim.Native.Nat.{ℕ, suc, ◌+◌, ◌-◌, ◌*◌, ◌≤◌, ◌<◌, mi
 use mathlib.Core.Path.{◌≡◌, refl, sym, ap, ap₂, subst, ◌∙◌}
 use mathlib.Core.Bool.{Bool, true, false, cond}
 use mathlib.Core.List.{List, [], ◌∷◌, ◌++◌}
-use native.Mathlib.Nat.{sub-zero}
 use native.Mathlib.Numerals.{add-one}
 use native.Mathlib.Omega.{arith}
 use borrow.Author.Tests.{ne_eqb}
@@ -15,7 +14,7 @@ use Rattle.laws.specs.Tables.{entries}
 use Rattle.laws.proofs.Sums.{sum_cong}
 use Rattle.laws.proofs.Totals.{sum_zero}
 use Rattle.laws.proofs.Tables.{length-entries, entry_at, entries_cong}
-use Rattle.laws.proofs.Stores.{Storing, storing_start, storing_next, storing_all, sets-append}
+use Rattle.laws.proofs.Stores.{Storing, storing_next, storing_all, sets-append}
 use Rattle.array.specs.declared.moves.Way.TheVariants.{Right}
 use Rattle.array.specs.declared.moves.Move.{Move}
 use Rattle.array.specs.declared.moves.Move.TheVariants.{Swap, Electronic}
@@ -40,9 +39,6 @@ use Rattle.mover.proofs.Swapping.{leaving_few, leaving-same, leaving-swaps, swap
 pub record Logging (f : ℕ → ℕ) (n from j : ℕ) (old log : List ℕ) : Type 0 where
   pub upto : j ≤ n
   pub stored : Storing old (entries f 0 n) from (from + j) log
-
-pub logging_start : (f : ℕ → ℕ) (n from : ℕ) (old : List ℕ) → Logging f n from 0 old old
-logging_start f n from old = let e : from + 0 ≡ from = omega arith in record { upto = omega arith; stored = rw e (storing_start old (entries f 0 n) from) }
 
 pub logging_next : (f : ℕ → ℕ) {n from j count : ℕ} {old log : List ℕ} → j < n → count ≡ f j → Logging f n from j old log → Logging f n from (j + 1) old (set log (from + j) count)
 logging_next f {n} {from} {j} {count} {old} {log} h e z =
@@ -78,11 +74,6 @@ adding_next went {j} {d} {count} {x} {b} h f e g z =
       sum_is = ap₂ ◌+◌ z.sum_is (g ∙ ap (λ (c : Bool). cond c (get_or went d 0) 0) e);
       few = omega (arith, z.few, g, few_cond b (get_or went d 0), f.few d h);
     })
-
-pub adding_end : {late : Bool} {times : ℕ} {went : List ℕ} {j d count : ℕ} → 8 ≤ d → Adding late times went j d count → count ≡ movers late times went j
-adding_end {late} {times} {went} {j} {d} h z =
-    let e : d ≡ 8 = omega (arith, z.upto) in
-    z.sum_is ∙ ap (λ (n : ℕ). sum n (λ e. cond (goes_in late times j e) (get_or went e 0) 0)) e
 
 -- a run by what the mesh and the light say of it
 pub made_run : (trip : Trip) (s swaps : ℕ) (r : Run) {k m n : ℕ} {lanes : Bool} {T C T' : ℕ → Cell} {went : List ℕ} {count : ℕ} → is_side s ≡ true → lanes ≡ true
@@ -175,9 +166,6 @@ pub record Running (trip : Trip) (s : ℕ) (rs : List Run) (n q done swaps : ℕ
   pub few : swaps ≤ done
   pub cells_left : (i : ℕ) → i < cells s → after trip s (drop q rs) swaps (n - done) C i ≡ after trip s rs 0 n T i
   pub log_left : sets moved' done (moved_log trip s (drop q rs) swaps (n - done) C) ≡ sets moved 0 (moved_log trip s rs 0 n T)
-
-pub running-start : (trip : Trip) (s : ℕ) (rs : List Run) (n : ℕ) (T : ℕ → Cell) (moved : List ℕ) → Running trip s rs n 0 0 0 T T moved moved
-running-start trip s rs n T moved = record { upto = omega arith; few = omega arith; cells_left = λ i h. rw sub-zero; log_left = rw sub-zero }
 
 pub few_swaps : (x : Move) (n : ℕ) → swaps_in x n ≤ n
 few_swaps Swap n = omega arith

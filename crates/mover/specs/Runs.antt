@@ -8,6 +8,7 @@ use Rattle.array.specs.declared.moves.Way.{Way}
 use Rattle.array.specs.declared.moves.Move.{Move}
 use Rattle.array.specs.declared.moves.Move.TheVariants.{Swap, Electronic}
 use Rattle.array.specs.Cells.{cells, partner}
+use Rattle.array.specs.Lent.{PassedLanes, of_lanes}
 use Rattle.runs.specs.declared.Run.{Run}
 use Rattle.runs.specs.Runs.{swaps_in}
 use Rattle.lists.specs.declared.Trip.{Trip}
@@ -74,3 +75,6 @@ pub record Ran (lanes : Bool) (trip : Trip) (s : ℕ) (rs : List Run) (n : ℕ) 
 abbrev pub RanList : Trip → ℕ → List Run → ℕ → Lent → Lent → Lent → Lent → Lent → Lent → Lent → Type 0
 RanList trip s rs n w m a w₂ m₂ a₂ moved =
     Ran (have_board s w m a w₂ m₂ a₂) trip s rs n (cells_before w m a w₂ m₂ a₂) (cells_after w m a w₂ m₂ a₂) (old moved) (new moved)
+
+abbrev pub RanListLent : Trip → ℕ → List Run → ℕ → PassedLanes → Lent → Type 0
+RanListLent trip s rs n lanes moved = of_lanes (λ w m a w₂ m₂ a₂. RanList trip s rs n w m a w₂ m₂ a₂ moved) lanes

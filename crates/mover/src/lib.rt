@@ -6,14 +6,15 @@ ghost use Rattle.std.proofs.lemmas.List.Edits.{sets};
 ghost use Rattle.laws.specs.Lent.{old, new};
 ghost use Rattle.laws.specs.Tables.{entries};
 ghost use Rattle.array.specs.Cells.{is_side, cells};
-ghost use Rattle.slots.specs.Lanes.{FromTo, Long};
+ghost use Rattle.array.specs.Lent.{SameLanes};
+ghost use Rattle.slots.specs.Lanes.{lent_cells, LongLent};
 ghost use Rattle.mesh.specs.Lines.{goes_in};
-ghost use Rattle.mover.specs.Runs.{low_after, is_late, RanList};
+ghost use Rattle.mover.specs.Runs.{low_after, is_late, RanListLent};
 ghost use Rattle.mover.specs.Inside.{way_of, leg_in, movers as movers_of, tallied, FewWent, MadeRun};
 
+use array::lent::LentLanes;
 use array::moves::{Move, Way};
-use laws::{counted, least, over};
-use light::{are_lanes, swap_lanes};
+use light::swap_lanes;
 use lists::Trip;
 use mesh::{Leg, run_all};
 use runs::{Run, electronic_in, swaps_in};
@@ -51,14 +52,13 @@ fn way_of(step: Move) -> Way
 fn leg_of(trip: Trip, side: usize, swaps: usize, run: Run, made: usize) -> Leg
     ensures { result ≡ leg_in trip side swaps run.step run.times made }
 {
-    let step = run.step;
     Leg {
-        side: side,
-        way: way_of(step),
+        side,
+        way: way_of(run.step),
         low: low_after(trip, swaps),
         late: is_late(trip),
         times: run.times,
-        made: electronic_in(step, made),
+        made: electronic_in(run.step, made),
     }
 }
 
@@ -67,9 +67,10 @@ fn goes_in(late: bool, times: usize, j: usize, d: usize) -> bool
     ensures { result ≡ goes_in late times j d }
 {
     if late {
-        return over(over(times, 1), j) < d;
+        times.saturating_sub(1).saturating_sub(j) < d
+    } else {
+        j < d
     }
-    j < d
 }
 
 // How many records go in move j, by how far those had to go that went.
@@ -78,11 +79,10 @@ fn movers(late: bool, times: usize, went: [usize; 8], j: usize) -> usize
     ensures { result ≡ movers_of late times went j }
 {
     let mut count: usize = 0;
-    let mut d: usize = 0;
-    while d < 8 {
-        let records = went[d];
-        count += counted(goes_in(late, times, j, d), records);
-        d += 1;
+    for d in 0..8 {
+        if goes_in(late, times, j, d) {
+            count += went[d];
+        }
     }
     count
 }
@@ -99,7 +99,7 @@ fn log_count(log: &mut [u16], k: usize, count: usize)
 
 // What is known of the first moves of a run once they are made: how many they are, and how many of them swaps; how many records went that had
 // 0 to 7 cells to go, and how many each swap took to another cell.
-#[derive(Clone, Copy)]
+#[derive(Clone, Copy, Debug, PartialEq, Eq)]
 struct Tally {
     made: usize,
     swaps: usize,
@@ -115,11 +115,9 @@ fn log_run(trip: Trip, times: usize, from: usize, tally: Tally, moved: &mut [u16
 {
     let late = is_late(trip);
     let went = tally.went;
-    let mut j: usize = 0;
-    while j < tally.made {
+    for j in 0..tally.made {
         let count = movers(late, times, went, j) + tally.swapped;
         log_count(moved, from + j, count);
-        j += 1;
     }
 }
 
@@ -131,39 +129,17 @@ fn make_run(
     swaps: usize,
     run: Run,
     remaining: usize,
-    words: &mut [u32],
-    marks: &mut [u8],
-    aims: &mut [u16],
-    spare_words: &mut [u32],
-    spare_marks: &mut [u8],
-    spare_aims: &mut [u16],
+    lanes: &mut LentLanes,
 ) -> Tally
     requires a_side { is_side side ≡ true }
-    requires long { Long (cells side) words marks aims spare_words spare_marks spare_aims }
-    ensures { FromTo (MadeRun trip side swaps run remaining result) words marks aims spare_words spare_marks spare_aims }
+    requires long { LongLent (cells side) lanes.old }
+    ensures same { SameLanes lanes.old lanes.new }
+    ensures made { MadeRun trip side swaps run remaining result (lent_cells lanes.old) (lent_cells lanes.new) }
 {
-    let made = least(run.times, remaining);
-    let step = run.step;
-    let n = swaps_in(step, made);
-    let went = run_all(
-        leg_of(trip, side, swaps, run, made),
-        words,
-        marks,
-        aims,
-        spare_words,
-        spare_marks,
-        spare_aims,
-    );
-    let swapped = swap_lanes(
-        side,
-        n,
-        words,
-        marks,
-        aims,
-        spare_words,
-        spare_marks,
-        spare_aims,
-    );
+    let made = run.times.min(remaining);
+    let n = swaps_in(run.step, made);
+    let went = run_all(leg_of(trip, side, swaps, run, made), lanes);
+    let swapped = swap_lanes(side, n, lanes);
     Tally {
         made,
         swaps: n,
@@ -179,48 +155,21 @@ pub fn run(
     side: usize,
     runs: [Run; 9],
     cut: usize,
-    words: &mut [u32],
-    marks: &mut [u8],
-    aims: &mut [u16],
-    spare_words: &mut [u32],
-    spare_marks: &mut [u8],
-    spare_aims: &mut [u16],
+    lanes: &mut LentLanes,
     moved: &mut [u16],
 )
-    ensures { RanList trip side runs cut words marks aims spare_words spare_marks spare_aims moved }
+    ensures same { SameLanes lanes.old lanes.new }
+    ensures ran { RanListLent trip side runs cut lanes moved }
 {
-    if !are_lanes(
-        side,
-        words.len(),
-        marks.len(),
-        aims.len(),
-        spare_words.len(),
-        spare_marks.len(),
-        spare_aims.len(),
-    ) {
+    if !lanes.fit(side) {
         return;
     }
     let mut swaps: usize = 0;
     let mut done: usize = 0;
-    let mut q: usize = 0;
-    while q < 9 {
-        let run = runs[q];
-        let tally = make_run(
-            trip,
-            side,
-            swaps,
-            run,
-            cut - done,
-            words,
-            marks,
-            aims,
-            spare_words,
-            spare_marks,
-            spare_aims,
-        );
+    for run in runs {
+        let tally = make_run(trip, side, swaps, run, cut - done, lanes);
         log_run(trip, run.times, done, tally, moved);
         swaps += tally.swaps;
         done += tally.made;
-        q += 1;
     }
 }

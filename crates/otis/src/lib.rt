@@ -10,7 +10,8 @@ ghost use Rattle.records.specs.Entries.{FullRun};
 ghost use Rattle.plainrecords.specs.Entries.{PlainRank, PlainRun};
 ghost use Rattle.otis.specs.Outcomes.{outcome_of};
 
-use answers::Answer;
+use answers::{Answer, Refusal};
+use array::lent::{LentLanes, LentSlots};
 use captures::{Replayed, replay};
 use ranking::rank;
 use records::{concentrate, distribute};
@@ -27,7 +28,7 @@ pub extern "C" fn otis_version() -> u32
 pub extern "C" fn otis_rank(side: usize, marks: &[u8], aims: &mut [u16], codes: &mut [u8]) -> Answer
     ensures { Ranked side marks.now aims codes result }
 {
-    rank(side, marks, aims, codes)
+    rank(side, marks, aims, codes).into()
 }
 
 #[unsafe(no_mangle)]
@@ -44,17 +45,17 @@ pub extern "C" fn otis_concentrate(
 ) -> Answer
     ensures { FullRun Concentrate side words marks aims spare_words spare_marks spare_aims codes moved result }
 {
-    concentrate(
-        side,
-        words,
-        marks,
-        aims,
-        spare_words,
-        spare_marks,
-        spare_aims,
-        codes,
-        moved,
-    )
+    let mut front = LentSlots { words, marks, aims };
+    let mut spare = LentSlots {
+        words: spare_words,
+        marks: spare_marks,
+        aims: spare_aims,
+    };
+    let mut lanes = LentLanes {
+        front: &mut front,
+        spare: &mut spare,
+    };
+    concentrate(side, &mut lanes, codes, moved).into()
 }
 
 #[unsafe(no_mangle)]
@@ -71,17 +72,17 @@ pub extern "C" fn otis_distribute(
 ) -> Answer
     ensures { FullRun Distribute side words marks aims spare_words spare_marks spare_aims codes moved result }
 {
-    distribute(
-        side,
-        words,
-        marks,
-        aims,
-        spare_words,
-        spare_marks,
-        spare_aims,
-        codes,
-        moved,
-    )
+    let mut front = LentSlots { words, marks, aims };
+    let mut spare = LentSlots {
+        words: spare_words,
+        marks: spare_marks,
+        aims: spare_aims,
+    };
+    let mut lanes = LentLanes {
+        front: &mut front,
+        spare: &mut spare,
+    };
+    distribute(side, &mut lanes, codes, moved).into()
 }
 
 // The final table at once, without moves and without logs.
@@ -89,7 +90,7 @@ pub extern "C" fn otis_distribute(
 pub extern "C" fn otis_plain_rank(side: usize, marks: &[u8], aims: &mut [u16]) -> Answer
     ensures { PlainRank side marks.now aims result }
 {
-    plainrecords::rank(side, marks, aims)
+    plainrecords::rank(side, marks, aims).into()
 }
 
 #[unsafe(no_mangle)]
@@ -104,15 +105,17 @@ pub extern "C" fn otis_plain_concentrate(
 ) -> Answer
     ensures { PlainRun Concentrate side words marks aims spare_words spare_marks spare_aims result }
 {
-    plainrecords::concentrate(
-        side,
-        words,
-        marks,
-        aims,
-        spare_words,
-        spare_marks,
-        spare_aims,
-    )
+    let mut front = LentSlots { words, marks, aims };
+    let mut spare = LentSlots {
+        words: spare_words,
+        marks: spare_marks,
+        aims: spare_aims,
+    };
+    let mut lanes = LentLanes {
+        front: &mut front,
+        spare: &mut spare,
+    };
+    plainrecords::concentrate(side, &mut lanes).into()
 }
 
 #[unsafe(no_mangle)]
@@ -127,20 +130,22 @@ pub extern "C" fn otis_plain_distribute(
 ) -> Answer
     ensures { PlainRun Distribute side words marks aims spare_words spare_marks spare_aims result }
 {
-    plainrecords::distribute(
-        side,
-        words,
-        marks,
-        aims,
-        spare_words,
-        spare_marks,
-        spare_aims,
-    )
+    let mut front = LentSlots { words, marks, aims };
+    let mut spare = LentSlots {
+        words: spare_words,
+        marks: spare_marks,
+        aims: spare_aims,
+    };
+    let mut lanes = LentLanes {
+        front: &mut front,
+        spare: &mut spare,
+    };
+    plainrecords::distribute(side, &mut lanes).into()
 }
 
 // What C gets of a replay: 0 agrees, 1 differs, 2 early or 3 refused; the move; and the number and the place of a refusal.
 #[repr(C)]
-#[derive(Clone, Copy)]
+#[derive(Clone, Copy, Debug, PartialEq, Eq)]
 pub struct Outcome {
     pub outcome: usize,
     pub step: usize,
@@ -148,34 +153,29 @@ pub struct Outcome {
     pub place: usize,
 }
 
-fn outcome_of(replayed: Replayed) -> Outcome
-    ensures { result ≡ outcome_of replayed }
-{
-    match replayed {
-        Replayed::Agrees => Outcome {
-            outcome: 0,
-            step: 0,
+impl From<Result<Replayed, Refusal>> for Outcome {
+    ghost from_gives = { λ replayed r. r ≡ outcome_of replayed };
+
+    fn from(replayed: Result<Replayed, Refusal>) -> Outcome {
+        let (outcome, step) = match replayed {
+            Ok(Replayed::Agrees) => (0, 0),
+            Ok(Replayed::Differs(step)) => (1, step),
+            Ok(Replayed::Early(step)) => (2, step),
+            Err(refusal) => {
+                return Outcome {
+                    outcome: 3,
+                    step: 0,
+                    number: refusal.number(),
+                    place: refusal.place(),
+                };
+            }
+        };
+        Outcome {
+            outcome,
+            step,
             number: 0,
             place: 0,
-        },
-        Replayed::Differs(step) => Outcome {
-            outcome: 1,
-            step: step,
-            number: 0,
-            place: 0,
-        },
-        Replayed::Early(step) => Outcome {
-            outcome: 2,
-            step: step,
-            number: 0,
-            place: 0,
-        },
-        Replayed::Refused(number, place) => Outcome {
-            outcome: 3,
-            step: 0,
-            number: number,
-            place: place,
-        },
+        }
     }
 }
 
@@ -189,5 +189,5 @@ pub extern "C" fn otis_replay(
 ) -> Outcome
     ensures { result ≡ outcome_of (replay_of side words.now marks.now aims.now capture.now) }
 {
-    outcome_of(replay(side, words, marks, aims, capture))
+    replay(side, words, marks, aims, capture).into()
 }

@@ -1,7 +1,7 @@
 -- What the plain entries answer: counts without a list, and what is known where they accept.
 use Prim.Native.Nat.{ℕ, ◌-◌, ◌*◌}
 use mathlib.Core.Path.{◌≡◌, refl, sym, ap, ◌∙◌}
-use mathlib.Core.Bool.{Bool, true, false, cond}
+use mathlib.Core.Bool.{Bool, true, false}
 use mathlib.Core.List.{List, [], ◌∷◌, ◌++◌}
 use native.Mathlib.Omega.{arith}
 use lib.ListN.{length}
@@ -9,10 +9,11 @@ use Rattle.laws.proofs.Searching.{none_found}
 use Rattle.array.specs.Cells.{is_side, cells}
 use Rattle.array.proofs.Board.{side_known}
 use Rattle.lists.specs.declared.Trip.{Trip}
-use Rattle.lists.specs.Lists.{total_moves, prefix_sum_runs, runs_of}
-use Rattle.lists.proofs.Counts.{prefix_sum-electronic, total_on_board}
+use Rattle.lists.specs.Lists.{prefix_sum_runs, runs_of}
+use Rattle.lists.proofs.Counts.{prefix_sum-electronic}
 use Rattle.answers.specs.declared.Answer.{Answer}
-use Rattle.answers.specs.declared.Case.{Case}
+use Rattle.answers.specs.declared.Moves.{Moves}
+use Rattle.answers.specs.Answers.{Case}
 use Rattle.answers.specs.Answers.{accepted, accepted_by, verdict, without_logs, side_case, lane_case}
 use Rattle.answers.proofs.Verdicts.{none_refuses, counted, side_built, lane_whole}
 use Rattle.marks.specs.Marks.{marks_case}
@@ -31,11 +32,12 @@ on_board s cs {a} {b} f = go (is_side s) refl
     go true e = ap (verdict (side_case s ∷ cs)) (f e)
     go false e = rw e
 
--- the moves but two are electronic, and two are swaps
-pub moves-made : (s : ℕ) {n e : ℕ} {a : Answer} → n ≡ cond (is_side s) (total_moves s) 0 → e ≡ n - 2 → a ≡ accepted e 2 → is_side s ≡ true → a ≡ accepted (7 * (s - 1)) 2
-moves-made s {n} {e} f g h t =
-    let x : e ≡ 7 * (s - 1) = omega (arith, total_on_board s n t f) in
-    h ∙ ap (λ (k : ℕ). accepted k 2) x
+-- the counts of the moves of a board
+abbrev pub BoardMoves : ℕ → Moves → Type 0
+BoardMoves s m = is_side s ≡ true → m ≡ record { electronic = 7 * (s - 1); swaps = 2 }
+
+moves-made : (s : ℕ) {m : Moves} → BoardMoves s m → is_side s ≡ true → accepted m.electronic m.swaps ≡ accepted (7 * (s - 1)) 2
+moves-made s f t = ap (λ (m : Moves). accepted m.electronic m.swaps) (f t)
 
 pub rank_counts : (s : ℕ) → is_side s ≡ true → accepted_by (prefix_sum_runs s) ≡ accepted (7 * (s - 1)) 2
 rank_counts s h = counted (prefix_sum_runs s) (7 * (s - 1)) 2 (prefix_sum-electronic s) refl (omega (arith, (side_known s h).most)) (omega arith)
@@ -58,12 +60,11 @@ rank_known s marks n e z =
 
 module _ (trip : Trip) (s : ℕ) (n : Sizes) (marks aims : List ℕ) where
   -- the answer of a trip, with the counts of its list
-  pub trip_answer : {total electronic : ℕ} {r : Answer} → total ≡ cond (is_side s) (total_moves s) 0 → electronic ≡ total - 2
-      → r ≡ verdict (without_logs (full_cases trip s n marks aims 0 0)) (accepted electronic 2)
+  pub trip_answer : {m : Moves} {r : Answer} → BoardMoves s m → r ≡ verdict (without_logs (full_cases trip s n marks aims 0 0)) (accepted m.electronic m.swaps)
       → r ≡ verdict (without_logs (full_cases trip s n marks aims 0 0)) (accepted_by (runs_of trip s))
-  trip_answer f g e =
+  trip_answer f e =
       let lanes = lane_case s n.words ∷ lane_case s (length marks) ∷ lane_case s (length aims) ∷ lane_case s n.spare_words ∷ lane_case s n.spare_marks ∷ lane_case s n.spare_aims ∷ [] in
-      e ∙ on_board s (lanes ++ (marks_case marks ∷ aims_case trip s marks aims ∷ [])) (λ t. moves-made s f g refl t ∙ sym (trip_counts trip s t))
+      e ∙ on_board s (lanes ++ (marks_case marks ∷ aims_case trip s marks aims ∷ [])) (λ t. moves-made s f t ∙ sym (trip_counts trip s t))
 
   -- lanes that a trip takes
   pub record TripKnown : Type 0 where

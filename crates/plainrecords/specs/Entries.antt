@@ -1,6 +1,7 @@
 -- What the plain entries on records answer and leave, for every input: the cases of the stepping entry without its logs', its counts, and the table at the end.
 use Rattle.std.specs.Prelude.{ℕ, ◌<◌, ◌≡◌, List, length}
 use Rattle.laws.specs.Lent.{Lent, old, new, Kept}
+use Rattle.array.specs.Lent.{PassedLanes, of_lanes}
 use Rattle.array.specs.Cells.{cells}
 use Rattle.answers.specs.declared.Answer.{Answer}
 use Rattle.answers.specs.Answers.{without_logs}
@@ -32,3 +33,7 @@ PlainRun trip s w m a w₂ m₂ a₂ =
     (runs_of trip s)
     (TableIs s (end_table trip s (old w) (old m) (old a)) (cells_after w m a w₂ m₂ a₂))
     (Unchanged w m a w₂ m₂ a₂)
+
+-- the same of lanes that are lent as one
+abbrev pub PlainRunLent : Trip → ℕ → PassedLanes → Answer → Type 0
+PlainRunLent trip s lanes r = of_lanes (λ w m a w₂ m₂ a₂. PlainRun trip s w m a w₂ m₂ a₂ r) lanes

@@ -2,8 +2,8 @@
 use Rattle.std.specs.Prelude.{ℕ, ◌-◌, ◌≤◌, ◌<◌, ◌≡◌, Bool, true, cond, not, ◌&&◌, List, ltb, eqb, length, get_or}
 use Rattle.laws.specs.Lent.{Lent, old, new}
 use Rattle.laws.specs.Tables.{entries}
+use Rattle.array.specs.declared.lent.LentSlots.{LentSlots}
 use Rattle.array.specs.Cells.{is_side, cells}
-use Rattle.clearing.specs.Cleared.{zeros}
 use Rattle.lists.specs.declared.Trip.{Trip}
 use Rattle.lists.specs.declared.Trip.TheVariants.{Concentrate, Distribute}
 use Rattle.marks.specs.Marks.{rank_in}
@@ -22,9 +22,9 @@ pub record Gathered (marks words words' : List ℕ) (count : ℕ) : Type 0 where
   pub few : count ≤ length marks
   pub word : (i : ℕ) → i < length marks → get_or marks i 0 ≡ 1 → get_or words' (rank_in marks i) 0 ≡ get_or words i 0
 
--- a lane of n cells: the first, so many, by a rule, and 0 in all others
-abbrev pub up_to : ℕ → (ℕ → ℕ) → ℕ → List ℕ
-up_to count f n = entries (λ i. cond (ltb i count) (f i) 0) 0 n
+-- a lane of n cells: the first, so many, by a rule, and all others empty
+abbrev pub up_to : {A : Type 0} → A → ℕ → (ℕ → A) → ℕ → List A
+up_to empty count f n = entries (λ i. cond (ltb i count) (f i) empty) 0 n
 
 -- marks and aims of some board, such as a trip takes
 pub record TripLanes (trip : Trip) (marks aims : List ℕ) : Type 0 where
@@ -55,6 +55,9 @@ pub record ArrangedBy (trip : Trip) (n : ℕ) (w m a w' m' a' : List ℕ) : Type
 abbrev pub Arranged : Trip → (w m a : Lent) → Type 0
 Arranged trip w m a = ArrangedBy trip (length (old m)) (old w) (old m) (old a) (new w) (new m) (new a)
 
+abbrev pub ArrangedSlots : Trip → LentSlots → LentSlots → Type 0
+ArrangedSlots trip t t' = ArrangedBy trip (length t.marks.now) t.words.now t.marks.now t.aims.now t'.words.now t'.marks.now t'.aims.now
+
 -- of so many records the last one is not aimed at its own cell
 abbrev pub last_goes : ℕ → List ℕ → Bool
 last_goes records aims = ltb 0 records && not (eqb (get_or aims (records - 1) 0) (records - 1))
@@ -81,9 +84,3 @@ pub record Scattered (count : ℕ) (w m a : Lent) : Type 0 where
   pub words : Landed count (old a) (λ r. get_or (old w) r 0) (new w)
   pub marks : Landed count (old a) (λ r. 1) (new m)
   pub aims : Landed count (old a) (λ r. get_or (old a) r 0) (new a)
-
--- three lanes were cleared
-pub record Emptied (w m a : Lent) : Type 0 where
-  pub words : new w ≡ zeros (old w)
-  pub marks : new m ≡ zeros (old m)
-  pub aims : new a ≡ zeros (old a)

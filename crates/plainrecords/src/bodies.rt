@@ -1,69 +1,40 @@
 // Either trip: its answer, and the six lanes where it is accepted.
 ghost use Rattle.std.specs.Prelude.{◌≡◌, length};
-ghost use Rattle.plainrecords.specs.Entries.{PlainRun};
-ghost use Rattle.plainrecords.specs.Inside.{TripLanes, Arranged, Emptied};
+ghost use Rattle.answers.specs.Answers.{answer_of};
+ghost use Rattle.array.specs.Lent.{SameSlots, SameLanes};
+ghost use Rattle.plainrecords.specs.Entries.{PlainRunLent};
+ghost use Rattle.plainrecords.specs.Inside.{TripLanes, ArrangedSlots};
 
+use crate::counting::moves_of;
 use crate::packing::pack;
 use crate::spreading::spread;
-use answers::Answer;
-use clearing::{zero_aims, zero_marks, zero_words};
-use laws::over;
-use lists::{Trip, total_moves};
-use refusals::{Sizes, judge_unlogged};
+use answers::{Moves, Refusal};
+use array::lent::{LentLanes, LentSlots};
+use clearing::empty;
+use lists::Trip;
+use refusals::{Frame, judge_unlogged};
 
 // The records at the end of a trip.
-fn arrange(trip: Trip, words: &mut [u32], marks: &mut [u8], aims: &mut [u16])
-    requires trip_lanes { TripLanes trip marks.old aims.old }
-    requires words_len { length words.old ≡ length marks.old }
-    requires aims_len { length aims.old ≡ length marks.old }
-    ensures { Arranged trip words marks aims }
+fn arrange(trip: Trip, slots: &mut LentSlots)
+    requires trip_lanes { TripLanes trip slots.old.marks.now slots.old.aims.now }
+    requires words_len { length slots.old.words.now ≡ length slots.old.marks.now }
+    requires aims_len { length slots.old.aims.now ≡ length slots.old.marks.now }
+    ensures same { SameSlots slots.old slots.new }
+    ensures arranged { ArrangedSlots trip slots.old slots.new }
 {
     match trip {
-        Trip::Concentrate => pack(words, marks, aims),
-        Trip::Distribute => spread(words, marks, aims),
+        Trip::Concentrate => pack(slots.words, slots.marks, slots.aims),
+        Trip::Distribute => spread(slots.words, slots.marks, slots.aims),
     }
 }
 
-// No cell holds a second record.
-fn empty_spares(spare_words: &mut [u32], spare_marks: &mut [u8], spare_aims: &mut [u16])
-    ensures { Emptied spare_words spare_marks spare_aims }
+pub(crate) fn run(trip: Trip, side: usize, lanes: &mut LentLanes) -> Result<Moves, Refusal>
+    ensures same { SameLanes lanes.old lanes.new }
+    ensures run { PlainRunLent trip side lanes (answer_of result) }
 {
-    zero_words(spare_words);
-    zero_marks(spare_marks);
-    zero_aims(spare_aims);
-}
-
-pub(crate) fn run(
-    trip: Trip,
-    side: usize,
-    words: &mut [u32],
-    marks: &mut [u8],
-    aims: &mut [u16],
-    spare_words: &mut [u32],
-    spare_marks: &mut [u8],
-    spare_aims: &mut [u16],
-) -> Answer
-    ensures { PlainRun trip side words marks aims spare_words spare_marks spare_aims result }
-{
-    let sizes = Sizes {
-        words: words.len(),
-        spare_words: spare_words.len(),
-        spare_marks: spare_marks.len(),
-        spare_aims: spare_aims.len(),
-    };
-    let answer = judge_unlogged(
-        trip,
-        side,
-        sizes,
-        marks,
-        aims,
-        over(total_moves(side), 2),
-        2,
-    );
-    if answer.number != 0 {
-        return answer;
-    }
-    empty_spares(spare_words, spare_marks, spare_aims);
-    arrange(trip, words, marks, aims);
-    answer
+    let frame = Frame::new(side, lanes.front, lanes.spare);
+    let moves = judge_unlogged(trip, frame, moves_of(side))?;
+    empty(lanes.spare);
+    arrange(trip, lanes.front);
+    Ok(moves)
 }

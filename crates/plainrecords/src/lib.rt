@@ -8,70 +8,38 @@ mod packing;
 mod ranks;
 mod spreading;
 
+ghost use Rattle.answers.specs.Answers.{answer_of};
+ghost use Rattle.array.specs.Lent.{SameLanes};
 ghost use Rattle.lists.specs.declared.Trip.TheVariants.{Concentrate, Distribute};
-ghost use Rattle.plainrecords.specs.Entries.{PlainRank, PlainRun};
+ghost use Rattle.plainrecords.specs.Entries.{PlainRank, PlainRunLent};
 
 use crate::bodies::run;
 use crate::ranks::{judge_rank, write_ranks};
-use answers::Answer;
+use answers::{Moves, Refusal};
+use array::lent::LentLanes;
 use lists::Trip;
 
 // Writes each marked cell's rank into its aim, and 0 into every other.
-pub fn rank(side: usize, marks: &[u8], aims: &mut [u16]) -> Answer
-    ensures { PlainRank side marks.now aims result }
+pub fn rank(side: usize, marks: &[u8], aims: &mut [u16]) -> Result<Moves, Refusal>
+    ensures { PlainRank side marks.now aims (answer_of result) }
 {
-    let answer = judge_rank(side, marks, aims.len());
-    if answer.number != 0 {
-        return answer;
-    }
+    let moves = judge_rank(side, marks, aims.len())?;
     write_ranks(marks, aims);
-    answer
+    Ok(moves)
 }
 
 // Every record goes to the cell of its rank.
-pub fn concentrate(
-    side: usize,
-    words: &mut [u32],
-    marks: &mut [u8],
-    aims: &mut [u16],
-    spare_words: &mut [u32],
-    spare_marks: &mut [u8],
-    spare_aims: &mut [u16],
-) -> Answer
-    ensures { PlainRun Concentrate side words marks aims spare_words spare_marks spare_aims result }
+pub fn concentrate(side: usize, lanes: &mut LentLanes) -> Result<Moves, Refusal>
+    ensures same { SameLanes lanes.old lanes.new }
+    ensures run { PlainRunLent Concentrate side lanes (answer_of result) }
 {
-    run(
-        Trip::Concentrate,
-        side,
-        words,
-        marks,
-        aims,
-        spare_words,
-        spare_marks,
-        spare_aims,
-    )
+    run(Trip::Concentrate, side, lanes)
 }
 
 // Every record goes to the cell that its aim names.
-pub fn distribute(
-    side: usize,
-    words: &mut [u32],
-    marks: &mut [u8],
-    aims: &mut [u16],
-    spare_words: &mut [u32],
-    spare_marks: &mut [u8],
-    spare_aims: &mut [u16],
-) -> Answer
-    ensures { PlainRun Distribute side words marks aims spare_words spare_marks spare_aims result }
+pub fn distribute(side: usize, lanes: &mut LentLanes) -> Result<Moves, Refusal>
+    ensures same { SameLanes lanes.old lanes.new }
+    ensures run { PlainRunLent Distribute side lanes (answer_of result) }
 {
-    run(
-        Trip::Distribute,
-        side,
-        words,
-        marks,
-        aims,
-        spare_words,
-        spare_marks,
-        spare_aims,
-    )
+    run(Trip::Distribute, side, lanes)
 }

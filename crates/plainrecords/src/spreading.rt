@@ -3,24 +3,15 @@ ghost use Rattle.std.specs.Prelude.{◌≡◌, ◌≤◌, length};
 ghost use Rattle.lists.specs.declared.Trip.TheVariants.{Distribute};
 ghost use Rattle.plainrecords.specs.Inside.{TripLanes, last_goes, Ready, Scattered, Arranged};
 
-use crate::keeping::{keep_first_aims, keep_first_words};
+use crate::keeping::keep_first;
 use marks::count_marks;
-
-fn place(aim: u16) -> usize
-    ensures { result ≡ aim }
-{
-    aim as usize
-}
 
 // Of so many records the last one has to go: its aim is not its own cell. Where it stays, so do all before it, since aims rise.
 fn goes(records: usize, aims: &[u16]) -> bool
     requires { records ≤ length aims.now }
     ensures { result ≡ last_goes records aims.now }
 {
-    if records == 0 {
-        return false;
-    }
-    place(aims[records - 1]) != records - 1
+    0 < records && usize::from(aims[records - 1]) != records - 1
 }
 
 // No record is overwritten before it is taken: its aim is no cell before its own, and the records before it are taken later.
@@ -36,7 +27,7 @@ fn scatter(count: usize, words: &mut [u32], marks: &mut [u8], aims: &mut [u16])
         words[r] = 0;
         marks[r] = 0;
         aims[r] = 0;
-        let to = place(aim);
+        let to = usize::from(aim);
         words[to] = word;
         marks[to] = 1;
         aims[to] = aim;
@@ -51,7 +42,7 @@ pub(crate) fn spread(words: &mut [u32], marks: &mut [u8], aims: &mut [u16])
     ensures { Arranged Distribute words marks aims }
 {
     let count = count_marks(marks);
-    keep_first_words(count, words);
-    keep_first_aims(count, aims);
+    keep_first(count, words, 0);
+    keep_first(count, aims, 0);
     scatter(count, words, marks, aims);
 }

@@ -1,9 +1,8 @@
 -- Words added one after the other, modulo 2 ^ 32, and lanes of one word.
-use Rattle.std.proofs.Common.{◌≡◌, ℕ, suc, ◌+◌, ◌%◌, ◌^◌, ◌<◌, ◌≤◌, List, length, get_or, set, replicate, sym, refl, ap, ◌∙◌, add-one}
+use Rattle.std.proofs.Common.{◌≡◌, ℕ, suc, ◌+◌, ◌%◌, ◌^◌, ◌<◌, List, length, get_or, set, sym, refl, ap, ◌∙◌, add-one}
 use native.Mathlib.Nat.{mod-add-mod}
 use Rattle.laws.specs.Sums.{sum_of}
-use Rattle.laws.proofs.Tables.{entries-same}
-use Rattle.laws.proofs.Rewriting.{Rewriting, rewriting_start, rewriting_store, rewriting_next, rewriting_end}
+use Rattle.laws.proofs.Rewriting.{Rewriting, rewriting_start, rewriting_store, rewriting_next}
 use Rattle.sums.specs.Sums.{plus}
 
 -- one word more
@@ -29,7 +28,3 @@ module _ (old : List ℕ) where
       let own = rewriting_next (sum_up_to old) 0 old z.lane in
       let more = sum_next old i z.so_far (e ∙ ap (plus sum) own) in
       record { lane = rewriting_store (sum_up_to old) 0 old sum' h more z.lane; so_far = more ∙ ap (λ (n : ℕ). sum_of n old % 2 ^ 32) (sym (add-one i)) }
-
--- a lane whose words became one
-pub one_word : (word : ℕ) (old : List ℕ) {l : List ℕ} {i : ℕ} → length l ≤ i → Rewriting (λ (k : ℕ). word) 0 old l i → l ≡ replicate (length old) word
-one_word word old h z = rewriting_end (λ (k : ℕ). word) 0 old h z ∙ entries-same (length old) word (λ k u. refl)

@@ -1,6 +1,5 @@
 pub mod Adding
 pub mod Counts
-pub mod Entering
 pub mod Order
 pub mod Placed
 pub mod Rows

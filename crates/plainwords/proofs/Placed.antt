@@ -1,5 +1,5 @@
 -- From lines to the board: the table of a shift names the positions that its words come from, and lines along an axis are its rows or columns.
-use Rattle.std.proofs.Common.{◌≡◌, ℕ, ◌+◌, ◌-◌, ◌*◌, ◌%◌, ◌<◌, ◌≤◌, Bool, true, false, cond, ltb, List, length, get_or, sym, refl, ap, ◌∙◌, ⊎_elim, mod-lt, mul_assoc, mul_comm, add-mul, mul-le-mul, one-mul, mul-one, arith, ltb-true, le-ltb, lt-ltb}
+use Rattle.std.proofs.Common.{◌≡◌, ℕ, ◌+◌, ◌-◌, ◌*◌, ◌%◌, ◌<◌, ◌≤◌, Bool, true, false, cond, ltb, List, length, get_or, sym, refl, ap, ◌∙◌, ⊎_elim, mod-lt, mul_assoc, mul_comm, add-mul, mul-le-mul, one-mul, mul-one, unwrap_or, arith, ltb-true, le-ltb, lt-ltb}
 use mathlib.Core.Option.{Option, none, some}
 use lib.Arith.{digits_lt}
 use lib.ListN.{get_or-eq_default}
@@ -11,24 +11,15 @@ use Rattle.shiftlists.specs.declared.Axis.TheVariants.{MeshRow, MeshColumn, Grou
 use Rattle.shiftlists.specs.declared.Edge.{Edge}
 use Rattle.shiftlists.specs.declared.Edge.TheVariants.{ZeroFill, Circular}
 use Rattle.shiftlists.specs.declared.Distance.{Distance}
-use Rattle.array.specs.Cells.{is_side, cells}
-use Rattle.array.proofs.Board.{side_known}
-use Rattle.shiftlists.specs.Shifts.{modulo, within}
-use Rattle.shiftlists.proofs.Within.{within_known}
+use Rattle.plainwords.specs.declared.lines.Lines.{Lines}
+use Rattle.array.specs.Cells.{cells}
+use Rattle.shiftlists.specs.Shifts.{modulo}
 use Rattle.lanes.specs.Machine.{at, load, unload}
 use Rattle.lanes.specs.Inside.{FitsBoard}
 use Rattle.lanes.proofs.Coordinates.{place<, unloaded}
 use Rattle.shifts.specs.Results.{came_from, word_from, shifted}
-use Rattle.plainwords.specs.Inside.{Near, stride_along, blocks_along, entry_for, position_on, named, Names, WholeBlocks, BlocksShifted}
+use Rattle.plainwords.specs.Inside.{Near, stride_along, blocks_along, source_of, entry_for, position_on, named, Names, WholeBlocks, BlocksShifted}
 use Rattle.plainwords.proofs.Shifting.{same_word}
-
-pub near_known : {s : ℕ} {k : Distance} → is_side s ≡ true → within s k ≡ true → Near s k
-near_known {s} {k} side h = record {
-  least = (side_known s side).least;
-  most = (side_known s side).most;
-  forth = (within_known s k h).forth;
-  back = (within_known s k h).back;
-}
 
 -- a position that a word comes from is one of the line
 came_in : (edge : Edge) {s : ℕ} {k : Distance} → Near s k → (p q : ℕ) → came_from edge s k p ≡ some q → q < s
@@ -43,6 +34,11 @@ came_in ZeroFill {s} {k} z p q e = go (ltb (p + k.back) k.forth) (ltb (p + k.bac
 came_in Circular {s} {k} z p q e =
     let same : (p + (s - modulo s k)) % s ≡ q = cc in
     rw same at (mod-lt (p + (s - modulo s k)) z.least)
+
+-- the number of a position, as the code makes it
+pub entry_is : (x : Option ℕ) → unwrap_or (source_of x) 8 ≡ entry_for x
+entry_is none = refl
+entry_is (some p) = refl
 
 -- so its number names it, and 8 none
 numbered : (s : ℕ) (x : Option ℕ) → s ≤ 8 → ((q : ℕ) → x ≡ some q → q < s) → (position_on s (entry_for x) ≡ x) × (entry_for x ≤ 8)
@@ -77,8 +73,15 @@ board_blocks s MeshColumn = refl
 board_blocks s GroupRow = mul_assoc s s (s * s)
 board_blocks s GroupColumn = mul_assoc s s (s * s) ∙ sym (one-mul (s * (s * (s * s))))
 
-pub whole-blocks : {s n stride blocks : ℕ} (axis : Axis) → FitsBoard s n → stride ≡ stride_along s axis → blocks ≡ blocks_along s axis → WholeBlocks s stride blocks n
-whole-blocks {s} axis b e f = rw (e, f) (record { least = b.least; most = b.most; few = few_cells b.most axis; whole = b.whole ∙ board_blocks s axis })
+pub whole-blocks : {lines : Lines} {n blocks : ℕ} (axis : Axis) → FitsBoard lines.side n → Names lines.from.now → lines.stride ≡ stride_along lines.side axis
+    → blocks ≡ blocks_along lines.side axis → WholeBlocks lines blocks n
+whole-blocks {lines} axis b names e f = record {
+  least = b.least;
+  most = b.most;
+  few = rw e (few_cells b.most axis);
+  whole = rw (e, f) (b.whole ∙ board_blocks lines.side axis);
+  names = names;
+}
 
 -- two digits of a number
 two_digits : (x y s t : ℕ) → (x * s + y) * t ≡ x * (s * t) + y * t

@@ -3,14 +3,11 @@ use Rattle.std.proofs.Common.{◌≡◌, ℕ, ◌+◌, ◌-◌, ◌*◌, ◌<◌
 use mathlib.Core.Option.{none, some}
 use Rattle.laws.proofs.Deciding.{same?}
 use Rattle.shifts.specs.Results.{word_from}
-use Rattle.plainwords.specs.Inside.{named, WholeRows, WholeBlock, Copied, RowsLaid, LinesShifted}
-use Rattle.plainwords.proofs.Shifting.{zero_at, in_block}
+use Rattle.plainwords.specs.Inside.{named, Copied, RowsLaid, LinesShifted}
+use Rattle.plainwords.proofs.Shifting.{zero_at}
 
 -- words copied one after the other
 module _ {a b : ℕ} {source old : List ℕ} where
-  pub copied-start : Copied a b 0 source old old
-  copied-start = record { size = refl; done = λ j h. absurd (omega arith); kept = λ i h. refl }
-
   pub copied_next : {j : ℕ} {l : List ℕ} (v : ℕ) → b + j < length old → v ≡ get_or source (a + j) 0 → Copied a b j source old l → Copied a b (j + 1) source old (set l (b + j) v)
   copied_next {j} {l} v h e z = record {
     size = length-set l (b + j) v ∙ z.size;
@@ -23,9 +20,6 @@ module _ {a b : ℕ} {source old : List ℕ} where
 
 -- rows laid one after the other
 module _ {first stride : ℕ} {f : ℕ → ℕ → ℕ} {old : List ℕ} where
-  pub rows_start : RowsLaid first stride 0 f old old
-  rows_start = record { size = refl; done = λ p j h. absurd (omega arith); kept = λ i h. refl }
-
   pub rows_next : {a b p : ℕ} {source l l' : List ℕ} → 8 ≤ stride → b ≡ first + p * stride → ((j : ℕ) → j < 8 → get_or source (a + j) 0 ≡ f p j)
       → RowsLaid first stride p f old l → Copied a b 8 source l l' → RowsLaid first stride (p + 1) f old l'
   rows_next {a} {b} {p} {source} {l} {l'} on e word y z = record {
@@ -41,15 +35,6 @@ module _ {first stride : ℕ} {f : ℕ → ℕ → ℕ} {old : List ℕ} where
       earlier k j u v =
           let next : k * stride + stride ≤ p * stride = omega (arith, suc-mul k stride, mul-le-mul_right stride u) in
           z.kept _ (λ i t g. omega (arith, next, e, g)) ∙ y.done k j u v
-
--- eight lines of a block
-pub rows_in_block : {s stride start n : ℕ} (o : ℕ) → WholeBlock s stride start n → o + 8 ≤ stride → WholeRows s stride (start + o) n
-rows_in_block {s} {stride} {start} {n} o b h = record { most = b.most; on = omega arith; inside = inside }
-  where
-    inside : (p : ℕ) → p < s → start + o + p * stride + 8 ≤ n
-    inside p u =
-        let last : o + 7 < stride = omega arith in
-        omega (arith, in_block start u last, b.inside)
 
 -- rows that were taken and laid are eight lines shifted
 pub eight_shifted : {s stride start o : ℕ} (from : List ℕ) {zeros rows words l : List ℕ} → zeros ≡ replicate 72 0

@@ -6,7 +6,7 @@ use Rattle.laws.proofs.Deciding.{apart, same?}
 use Rattle.laws.proofs.Rewriting.{Rewriting}
 use Rattle.lanes.specs.Inside.{PlacesLaid}
 use Rattle.shifts.specs.Results.{word_from}
-use Rattle.plainwords.specs.Inside.{named, WholeLine, WholeBlock, WholeBlocks, LineTaken, LinesShifted, BlocksShifted}
+use Rattle.plainwords.specs.Inside.{named, LineTaken, LinesShifted, BlocksShifted}
 
 -- lines that agree give the same word
 pub same_word : (came : Option ℕ) {f g : ℕ → ℕ} → ((q : ℕ) → f q ≡ g q) → word_from f came ≡ word_from g came
@@ -22,29 +22,6 @@ one_line {stride} {o} {o'} start p p' h h' e =
 -- and in the block
 pub in_block : {s stride p o : ℕ} (start : ℕ) → p < s → o < stride → start + o + p * stride < start + s * stride
 in_block start h h' = omega (arith, digits_lt h h')
-
-pub line_in_block : {s stride start o n : ℕ} → WholeBlock s stride start n → o < stride → WholeLine s stride (start + o) n
-line_in_block {start = start} b h =
-    record { most = b.most; on = omega arith; inside = λ p u. omega (arith, in_block start u h, b.inside) }
-
-pub first_in_block : {s stride start o n : ℕ} → WholeBlock s stride start n → o < stride → start + o < n
-first_in_block {start = start} b h = omega (arith, in_block start b.least h, b.inside)
-
-pub block-kept : {s stride start n n' : ℕ} → n' ≡ n → WholeBlock s stride start n → WholeBlock s stride start n'
-block-kept e b = rw e b
-
--- a row of eight words by itself
-pub row_block : {s stride start n : ℕ} → s ≡ 8 → stride ≡ 1 → WholeBlock s stride start n → WholeBlock 8 1 start n
-row_block e f b = rw (e, f) at b
-
-pub row-shifted : {s stride start : ℕ} (from : List ℕ) {old l : List ℕ} → s ≡ 8 → stride ≡ 1 → LinesShifted 8 1 (named 8 from) start 0 1 old l
-    → LinesShifted s stride (named s from) start 0 stride old l
-row-shifted from e f z = rw (e, f) z
-
--- a block of those of a lane
-pub block_of : {s stride blocks j n n' size : ℕ} → WholeBlocks s stride blocks n → j < blocks → n' ≡ n → size ≡ s * stride → WholeBlock s stride (j * size) n'
-block_of {s} {stride} {j = j} b h e f =
-    rw (f, e) (record { least = b.least; most = b.most; inside = omega (arith, suc-mul j (s * stride), mul-le-mul_right (s * stride) h, b.whole) })
 
 pub zero_at : (n q : ℕ) → ◌≡◌ {A = ℕ} (get_or (replicate n 0) q 0) 0
 zero_at zero q = refl
@@ -90,16 +67,7 @@ line-shifted {o = o} from t z = record {
   kept = λ i h. z.kept i (λ k u. h k o u (omega arith) (omega arith));
 }
 
-pub row_laid : {start : ℕ} (from : List ℕ) {line words l : List ℕ} → LineTaken 8 1 start words line
-    → PlacesLaid start 1 8 (λ p. get_or line (get_or from p 0) 0) words l → LinesShifted 8 1 (named 8 from) start 0 1 words l
-row_laid {start} from t z =
-    let e : start ≡ start + 0 = omega arith in
-    line-shifted from (rw e at t) (rw e at z)
-
 module _ {s stride : ℕ} {came : ℕ → Option ℕ} where
-  pub lines_start : {start o : ℕ} {old : List ℕ} → LinesShifted s stride came start o o old old
-  lines_start = record { size = refl; done = λ p o h u v. absurd (omega arith); kept = λ i h. refl }
-
   -- lines behind those that were shifted
   pub lines_next : {start a b c : ℕ} {old l l' : List ℕ} → a ≤ b → b ≤ c → c ≤ stride → LinesShifted s stride came start a b old l → LinesShifted s stride came start b c l l'
       → LinesShifted s stride came start a c old l'
@@ -117,9 +85,6 @@ module _ {s stride : ℕ} {came : ℕ → Option ℕ} where
       later p o h v u =
           z.done p o h u v
           ∙ same_word (came p) (λ q. y.kept _ (λ p' o' h' u' v' e. omega (arith, one_line start q p' (omega arith) (omega arith) e)))
-
-  pub blocks_start : {old : List ℕ} → BlocksShifted s stride came 0 old old
-  blocks_start = record { size = refl; done = λ j p o h. absurd (omega arith); kept = λ i h. refl }
 
   -- one block more
   pub blocks_next : {j : ℕ} {old l l' : List ℕ} → BlocksShifted s stride came j old l → LinesShifted s stride came (j * (s * stride)) 0 stride l l'

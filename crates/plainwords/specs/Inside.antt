@@ -1,12 +1,14 @@
 -- What the parts of a plain shift do to a lane. A reader of the public contracts does not need it.
 -- A line along an axis is s cells, each a stride behind the one before; the stride's lines from a block's start on lie side by side.
 use Rattle.std.specs.Prelude.{◌≡◌, ℕ, ◌+◌, ◌*◌, ◌%◌, ◌^◌, ◌<◌, ◌≤◌, cond, List, length, ◌≢◌, nat_lt, slice_index}
+use Rattle.std.specs.Prelude.{Option as Source, Some, None}
 use Rattle.std.proofs.Math.Option.{Option, none, some}
 use Rattle.shiftlists.specs.declared.Axis.{Axis}
 use Rattle.shiftlists.specs.declared.Axis.TheVariants.{MeshRow, MeshColumn, GroupRow, GroupColumn}
 use Rattle.shiftlists.specs.declared.Edge.{Edge}
 use Rattle.shiftlists.specs.declared.Edge.TheVariants.{ZeroFill, Circular}
 use Rattle.shiftlists.specs.declared.Distance.{Distance}
+use Rattle.plainwords.specs.declared.lines.Lines.{Lines}
 use Rattle.array.specs.Cells.{groups}
 use Rattle.shiftlists.specs.Shifts.{circular_moves}
 use Rattle.shifts.specs.Results.{word_from}
@@ -36,7 +38,12 @@ blocks_along s MeshColumn = groups s
 blocks_along s GroupRow = s
 blocks_along s GroupColumn = 1
 
--- a position of a line as a number, 8 for none, and back
+-- a position of a line as the code has it
+abbrev pub source_of : Option ℕ → Source ℕ
+source_of none = None
+source_of (some p) = Some p
+
+-- as a number, 8 for none, and back
 abbrev pub entry_for : Option ℕ → ℕ
 entry_for none = 8
 entry_for (some p) = p
@@ -53,27 +60,31 @@ pub record Names (from : List ℕ) : Type 0 where
   pub few : (p : ℕ) → slice_index from p ≤ 8
 
 -- a line, a block and blocks of lines within a lane of n words
-pub record WholeLine (s stride first n : ℕ) : Type 0 where
-  pub most : s ≤ 8
-  pub on : 0 < stride
-  pub inside : (p : ℕ) → p < s → first + p * stride < n
+pub record WholeLine (lines : Lines) (first n : ℕ) : Type 0 where
+  pub most : lines.side ≤ 8
+  pub on : 0 < lines.stride
+  pub inside : (p : ℕ) → p < lines.side → first + p * lines.stride < n
+  pub names : Names lines.from.now
 
 -- eight lines side by side, as rows of eight words
-pub record WholeRows (s stride first n : ℕ) : Type 0 where
-  pub most : s ≤ 8
-  pub on : 8 ≤ stride
-  pub inside : (p : ℕ) → p < s → first + p * stride + 8 ≤ n
+pub record WholeRows (lines : Lines) (first n : ℕ) : Type 0 where
+  pub most : lines.side ≤ 8
+  pub on : 8 ≤ lines.stride
+  pub inside : (p : ℕ) → p < lines.side → first + p * lines.stride + 8 ≤ n
+  pub names : Names lines.from.now
 
-pub record WholeBlock (s stride start n : ℕ) : Type 0 where
-  pub least : 1 ≤ s
-  pub most : s ≤ 8
-  pub inside : start + s * stride ≤ n
+pub record WholeBlock (lines : Lines) (start n : ℕ) : Type 0 where
+  pub least : 1 ≤ lines.side
+  pub most : lines.side ≤ 8
+  pub inside : start + lines.side * lines.stride ≤ n
+  pub names : Names lines.from.now
 
-pub record WholeBlocks (s stride blocks n : ℕ) : Type 0 where
-  pub least : 1 ≤ s
-  pub most : s ≤ 8
-  pub few : s * stride ≤ 4096
-  pub whole : n ≡ blocks * (s * stride)
+pub record WholeBlocks (lines : Lines) (blocks n : ℕ) : Type 0 where
+  pub least : 1 ≤ lines.side
+  pub most : lines.side ≤ 8
+  pub few : lines.side * lines.stride ≤ 4096
+  pub whole : n ≡ blocks * (lines.side * lines.stride)
+  pub names : Names lines.from.now
 
 -- a line's words, and 0 behind them
 pub record LineTaken (s stride first : ℕ) (words line : List ℕ) : Type 0 where
@@ -104,3 +115,10 @@ pub record BlocksShifted (s stride : ℕ) (came : ℕ → Option ℕ) (blocks : 
   pub done : (j p o : ℕ) → j < blocks → p < s → o < stride
       → slice_index l (j * (s * stride) + o + p * stride) ≡ word_from (λ q. slice_index old (j * (s * stride) + o + q * stride)) (came p)
   pub kept : (i : ℕ) → blocks * (s * stride) ≤ i → slice_index l i ≡ slice_index old i
+
+-- the same of lines as the code has them
+abbrev pub ShiftedBy : Lines → ℕ → ℕ → ℕ → List ℕ → List ℕ → Type 0
+ShiftedBy lines = LinesShifted lines.side lines.stride (named lines.side lines.from.now)
+
+abbrev pub BoardShiftedBy : Lines → ℕ → List ℕ → List ℕ → Type 0
+BoardShiftedBy lines = BlocksShifted lines.side lines.stride (named lines.side lines.from.now)

@@ -6,7 +6,6 @@ use Rattle.lanes.specs.Machine.{State, all}
 use Rattle.sums.specs.Sums.{plus, minus}
 use Rattle.lanes.specs.Stages.{from, word, copy}
 use Rattle.lanes.specs.Inside.{Lane, swapped_state}
-use Rattle.prefix.specs.Programs.{prefixed}
 
 -- runs over whole lines: sums from the first position on, copies from the last one back
 abbrev pub summed : ℕ → Way → State ℕ → State ℕ
@@ -16,14 +15,14 @@ abbrev pub copied : ℕ → Way → State ℕ → State ℕ
 copied s w σ = all s (from w word copy (s - 1) (s - 1)) σ
 
 -- Steps 1 and 2: the row sums in r, their column sums in c.
-pub record RowsAndColumns (s : ℕ) (r c r' c' : List ℕ) : Type 0 where
+pub record RowsAndColumns (s : ℕ) (r r' c' : List ℕ) : Type 0 where
   pub rows : (R : State ℕ) → Lane s r R → Lane s r' (summed s Right R)
-  pub columns : (R C : State ℕ) → Lane s r R → Lane s c C → Lane s c' (summed s Down (summed s Right R))
+  pub columns : (R : State ℕ) → Lane s r R → Lane s c' (summed s Down (summed s Right R))
 
--- step 3 and the sums of step 4: y are the row sums of what came by light, z their column sums; what y and z held does not matter
-pub record GroupSums (s : ℕ) (c y z y' z' : List ℕ) : Type 0 where
-  pub rows : (C Y : State ℕ) → Lane s c C → Lane s y Y → Lane s y' (summed s Right (swapped_state C))
-  pub columns : (C Y Z : State ℕ) → Lane s c C → Lane s y Y → Lane s z Z → Lane s z' (summed s Down (summed s Right (swapped_state C)))
+-- step 3 and the sums of step 4: y are the row sums of what came by light, z their column sums
+pub record GroupSums (s : ℕ) (c y' z' : List ℕ) : Type 0 where
+  pub rows : (C : State ℕ) → Lane s c C → Lane s y' (summed s Right (swapped_state C))
+  pub columns : (C : State ℕ) → Lane s c C → Lane s z' (summed s Down (summed s Right (swapped_state C)))
 
 -- the rest of step 4, and step 5: the modified sums, sent back by light; A is what came
 abbrev pub modified : ℕ → State ℕ → State ℕ → State ℕ → State ℕ
@@ -39,7 +38,3 @@ finished s R C M c d a b =
 
 pub record Finished (s : ℕ) (r c z r' : List ℕ) : Type 0 where
   pub so : (R C M : State ℕ) → Lane s r R → Lane s c C → Lane s z M → Lane s r' (finished s R C M)
-
--- all nine steps: r becomes the prefix sums, whatever the other lanes held
-pub record PrefixLanes (s : ℕ) (r c y z r' : List ℕ) : Type 0 where
-  pub so : (R C Y Z : State ℕ) → Lane s r R → Lane s c C → Lane s y Y → Lane s z Z → Lane s r' (prefixed s R)

@@ -5,35 +5,38 @@ ghost use Rattle.std.specs.Prelude.{◌≡◌, cond, ◌≤◌, length, ltb};
 ghost use Rattle.lanes.specs.Inside.{FitsBoard, Moves};
 ghost use Rattle.prefix.specs.Programs.{prefixed};
 ghost use Rattle.prefix.specs.Results.{prefix_sum_lane};
-ghost use Rattle.prefix.specs.Inside.{RowsAndColumns, GroupSums, Modified, Finished, PrefixLanes};
+ghost use Rattle.prefix.specs.Inside.{RowsAndColumns, GroupSums, Modified, Finished};
 
 use array::cells::is_board;
 use array::moves::Way;
 use lanes::{Joining, run};
 use light::swap_words;
-use sums::{Combining, balance, combine};
+use sums::{add, balance, subtract};
 
 // Steps 1 and 2: the sums along the rows, and those of the rows down the columns.
 fn rows_and_columns(r: &mut [u32], c: &mut [u32], side: usize)
-    requires { 1 ≤ side }
-    ensures { RowsAndColumns side r.old c.old r.new c.new }
+    requires side { 1 ≤ side }
+    requires c_len { length c.old ≡ length r.old }
+    ensures { RowsAndColumns side r.old r.new c.new }
 {
     let last = side - 1;
     run(side, Way::Right, Joining::Add, 0, last, r);
-    combine(Combining::Take, c, &r[..]);
+    c.copy_from_slice(&r[..]);
     run(side, Way::Down, Joining::Add, 0, last, c);
 }
 
 // Step 3 and the sums of step 4: what comes by light, its sums along the rows, and theirs down the columns.
 fn group_sums(c: &[u32], y: &mut [u32], z: &mut [u32], side: usize)
-    requires { 1 ≤ side }
-    ensures { GroupSums side c.now y.old z.old y.new z.new }
+    requires side { 1 ≤ side }
+    requires y_len { length y.old ≡ length c.now }
+    requires z_len { length z.old ≡ length c.now }
+    ensures { GroupSums side c.now y.new z.new }
 {
     let last = side - 1;
-    combine(Combining::Take, y, c);
+    y.copy_from_slice(c);
     swap_words(side, y);
     run(side, Way::Right, Joining::Add, 0, last, y);
-    combine(Combining::Take, z, &y[..]);
+    z.copy_from_slice(&y[..]);
     run(side, Way::Down, Joining::Add, 0, last, z);
 }
 
@@ -44,11 +47,11 @@ fn modify(c: &[u32], y: &[u32], z: &mut [u32], side: usize)
     ensures { Modified side c.now y.now z.old z.new }
 {
     let last = side - 1;
-    combine(Combining::Minus, z, y);
+    subtract(z, y);
     run(side, Way::Left, Joining::Copy, last, last, z);
-    combine(Combining::Plus, z, y);
+    add(z, y);
     swap_words(side, z);
-    combine(Combining::Minus, z, c);
+    subtract(z, c);
 }
 
 // Steps 6 to 9: up the last column; the column sum is added and the row sum taken off again; along the rows; the row sum is added.
@@ -60,13 +63,16 @@ fn finish(r: &mut [u32], c: &[u32], z: &mut [u32], side: usize)
     run(side, Way::Up, Joining::Copy, last, last, z);
     balance(z, c, &r[..]);
     run(side, Way::Left, Joining::Copy, last, last, z);
-    combine(Combining::Plus, r, &z[..]);
+    add(r, &z[..]);
 }
 
-// The nine steps on four lanes: r holds the words, and at the end their prefix sums.
+// The nine steps on four lanes: r holds the words, and at the end their prefix sums, whatever the others held.
 fn prefix_lanes(r: &mut [u32], c: &mut [u32], y: &mut [u32], z: &mut [u32], side: usize)
-    requires { 1 ≤ side }
-    ensures { PrefixLanes side r.old c.old y.old z.old r.new }
+    requires side { 1 ≤ side }
+    requires c_len { length c.old ≡ length r.old }
+    requires y_len { length y.old ≡ length r.old }
+    requires z_len { length z.old ≡ length r.old }
+    ensures { Moves side (prefixed side) r.old r.new }
 {
     rows_and_columns(r, c, side);
     group_sums(&c[..], y, z, side);
@@ -74,39 +80,16 @@ fn prefix_lanes(r: &mut [u32], c: &mut [u32], y: &mut [u32], z: &mut [u32], side
     finish(r, &c[..], z, side);
 }
 
-// On a board of side 2 at most: to clear lanes that are much too long takes longer than the moves.
-fn sum_least(words: &mut [u32], side: usize)
+// The three other lanes have room for so many words: to clear lanes that are much too long takes longer than the moves of a small board.
+fn sum_within<const N: usize>(words: &mut [u32], side: usize)
     requires fits_board { FitsBoard side (length words.old) }
-    requires words_len_bound { length words.old ≤ 16 }
+    requires room { length words.old ≤ N }
+    requires few { N ≤ 4096 }
     ensures { Moves side (prefixed side) words.old words.new }
 {
-    let mut c = [0u32; 16];
-    let mut y = [0u32; 16];
-    let mut z = [0u32; 16];
-    let n = words.len();
-    prefix_lanes(words, &mut c[..n], &mut y[..n], &mut z[..n], side);
-}
-
-// On a board of side 4 at most.
-fn sum_few(words: &mut [u32], side: usize)
-    requires fits_board { FitsBoard side (length words.old) }
-    requires words_len_bound { length words.old ≤ 256 }
-    ensures { Moves side (prefixed side) words.old words.new }
-{
-    let mut c = [0u32; 256];
-    let mut y = [0u32; 256];
-    let mut z = [0u32; 256];
-    let n = words.len();
-    prefix_lanes(words, &mut c[..n], &mut y[..n], &mut z[..n], side);
-}
-
-fn sum_many(words: &mut [u32], side: usize)
-    requires { FitsBoard side (length words.old) }
-    ensures { Moves side (prefixed side) words.old words.new }
-{
-    let mut c = [0u32; 4096];
-    let mut y = [0u32; 4096];
-    let mut z = [0u32; 4096];
+    let mut c = [0u32; N];
+    let mut y = [0u32; N];
+    let mut z = [0u32; N];
     let n = words.len();
     prefix_lanes(words, &mut c[..n], &mut y[..n], &mut z[..n], side);
 }
@@ -116,9 +99,9 @@ fn sum_up(words: &mut [u32], side: usize)
     ensures { Moves side (prefixed side) words.old words.new }
 {
     if words.len() <= 256 {
-        sum_few(words, side);
+        sum_within::<256>(words, side);
     } else {
-        sum_many(words, side);
+        sum_within::<4096>(words, side);
     }
 }
 
@@ -143,5 +126,5 @@ pub fn prefix_least(side: usize, words: &mut [u32])
     if !is_board(side, words.len()) {
         return;
     }
-    sum_least(words, side);
+    sum_within::<16>(words, side);
 }

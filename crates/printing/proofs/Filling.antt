@@ -1,7 +1,7 @@
 -- A whole text at the start of a buffer.
 use Prim.Native.Nat.{ℕ, ◌+◌, ◌≤◌}
-use mathlib.Core.Path.{◌≡◌, refl, sym, ◌∙◌}
-use mathlib.Core.List.{List, []}
+use mathlib.Core.Path.{◌≡◌, sym, ◌∙◌}
+use mathlib.Core.List.{List}
 use native.Mathlib.Omega.{arith}
 use lib.ListN.{length, take, length-append}
 use lib.Seq.{sets-eq, length-take-le}
@@ -12,10 +12,6 @@ pub filled : {out text : List ℕ} {r : ℕ} {out' : List ℕ} → length text �
 filled {out} {text} h w =
     let z : 0 + length text ≡ length text = omega arith in
     record { count = omega (arith, w.end); is = w.is ∙ sets-eq text out 0 (omega arith) ∙ rw z }
-
--- no text
-pub nothing-filled : (out : List ℕ) → OutFilled out [] 0 out
-nothing-filled out = record { count = refl; is = refl }
 
 -- the bytes to write are a part of the buffer
 pub filled_fits : {out text : List ℕ} {r : ℕ} {out' : List ℕ} → OutFilled out text r out' → r ≤ length out'

@@ -1,4 +1,4 @@
 pub mod Putting
-pub mod Filling
 pub mod Digits
+pub mod Filling
 pub mod Meaning

@@ -1,24 +1,19 @@
--- Texts that are written one after the other into a buffer, as far as that goes.
-use Prim.Native.Nat.{ℕ, ◌+◌, ◌≤◌, ◌<◌, min, max}
-use mathlib.Core.Path.{◌≡◌, refl, sym, ap, ◌∙◌}
-use mathlib.Core.Bool.{Bool, true, false}
-use mathlib.Core.List.{List, [], ◌∷◌, ◌++◌}
-use native.Mathlib.Numerals.{add-one}
-use native.Mathlib.Omega.{arith}
-use lib.ListN.{length, get_or, take, set, length-append}
-use lib.Seq.{sets, length-sets, take-suc, take_all}
-use lib.Dec.{leb}
+-- Texts that a printer puts one after the other.
+use Rattle.std.proofs.Common.{◌≡◌, ℕ, ◌+◌, ◌≤◌, ◌<◌, min, max, Bool, true, false, List, [], ◌∷◌, ◌++◌, length, get_or, take, refl, sym, ap, ◌∙◌, leb, add-one, arith, length-append}
+use Rattle.std.proofs.Math.Seq.{sets, length-sets, take-suc}
 use borrow.Author.Tests.{leb-true, leb-false}
 use Rattle.laws.proofs.Stores.{sets-append, sets_past}
 use Rattle.printing.specs.Printed.{rows}
+use Rattle.printing.specs.declared.Printer.{Printer}
 use Rattle.printing.specs.Buffers.{Written}
+use Rattle.printing.specs.Printers.{Put}
 
 -- nothing
-pub nothing : (out : List ℕ) (at : ℕ) → Written out at [] at out
+nothing : (out : List ℕ) (at : ℕ) → Written out at [] at out
 nothing out at = record { end = omega arith; is = refl }
 
 -- a buffer keeps its length
-pub same_long : {a b : List ℕ} {at r : ℕ} {s : List ℕ} → Written a at s r b → length b ≡ length a
+same_long : {a b : List ℕ} {at r : ℕ} {s : List ℕ} → Written a at s r b → length b ≡ length a
 same_long {a} {b} {at} {r} {s} p = ap length p.is ∙ length-sets a at s
 
 -- where one text ends and then another
@@ -40,53 +35,29 @@ behind a at m s t e = go (leb (at + length s) (length a)) refl
         sets_past (sets a at s) m t (rw length-sets f) ∙ sym (sets_past (sets a at s) (at + length s) t (rw length-sets (omega arith)))
 
 -- one text, and then another
-pub one_then : {a b c : List ℕ} {at m r : ℕ} {s t : List ℕ} → Written a at s m b → Written b m t r c → Written a at (s ++ t) r c
+one_then : {a b c : List ℕ} {at m r : ℕ} {s t : List ℕ} → Written a at s m b → Written b m t r c → Written a at (s ++ t) r c
 one_then {a} {b} {c} {at} {m} {r} {s} {t} p q = record {
   end = rw length-append (ends at (length s) (length t) (length a) m r p.end (q.end ∙ rw (same_long p)));
   is = q.is ∙ rw p.is (behind a at m s t p.end ∙ sym (sets-append a at s t));
 }
 
--- a byte, and none where the buffer is full
-pub byte : (out : List ℕ) (at b : ℕ) → at < length out → Written out at (b ∷ []) (at + 1) (set out at b)
-byte out at b h = record { end = omega arith; is = refl }
+pub put_nothing : (a : Printer) → Put [] a a
+put_nothing a = record { same_buffer = refl; written = nothing a.out.now a.at }
 
-pub no_byte : (out : List ℕ) (at b : ℕ) → length out ≤ at → Written out at (b ∷ []) at out
-no_byte out at b h = record { end = omega arith; is = sym (sets_past out at (b ∷ []) h) }
+pub put_then : {s t : List ℕ} {a b c : Printer} → Put s a b → Put t b c → Put (s ++ t) a c
+put_then p q = record { same_buffer = q.same_buffer ∙ p.same_buffer; written = one_then p.written q.written }
 
--- the first i bytes of a text
-pub record Putting (out₀ : List ℕ) (at : ℕ) (text out : List ℕ) (end i : ℕ) : Type 0 where
-  pub so_far : i ≤ length text
-  pub long : length out ≡ length out₀
-  pub written : Written out₀ at (take i text) end out
+-- one element more
+pub put_next : (text : List ℕ) (i : ℕ) {a b c : Printer} → i < length text → Put (take i text) a b → Put (get_or text i 0 ∷ []) b c
+    → Put (take (i + 1) text) a c
+put_next text i h p q = rw add-one (rw (take-suc text i 0 h) (put_then p q))
 
-pub put_begin : (out text : List ℕ) (at : ℕ) → Putting out at text out at 0
-put_begin out text at = record { so_far = omega arith; long = refl; written = nothing out at }
-
-module _ {out₀ : List ℕ} {at : ℕ} {text out : List ℕ} {end i : ℕ} (p : Putting out₀ at text out end i) where
-  pub put_next : i < length text → {r : ℕ} {out' : List ℕ} → Written out end (get_or text i 0 ∷ []) r out' → Putting out₀ at text out' r (i + 1)
-  put_next h w =
-      let e : take (i + 1) text ≡ take i text ++ (get_or text i 0 ∷ []) = rw add-one (take-suc text i 0 h) in
-      record { so_far = omega arith; long = same_long w ∙ p.long; written = rw e (one_then p.written w) }
-
-  pub put_end : length text ≤ i → Written out₀ at text end out
-  put_end h = rw (take_all i text h) at p.written
-
--- the first i of n rows
-pub record Rowing (f : ℕ → List ℕ) (n : ℕ) (out₀ : List ℕ) (at : ℕ) (out : List ℕ) (end i : ℕ) : Type 0 where
-  pub so_far : i ≤ n
-  pub long : length out ≡ length out₀
-  pub written : Written out₀ at (rows f i) end out
-
-pub rows_begin : (f : ℕ → List ℕ) (n : ℕ) (out : List ℕ) (at : ℕ) → Rowing f n out at out at 0
-unfolding rows
-rows_begin f n out at = record { so_far = omega arith; long = refl; written = nothing out at }
-
-module _ {f : ℕ → List ℕ} {n : ℕ} {out₀ : List ℕ} {at : ℕ} {out : List ℕ} {end i : ℕ} (p : Rowing f n out₀ at out end i) where
-  pub rows_next : i < n → {r : ℕ} {out' : List ℕ} → Written out end (f i) r out' → Rowing f n out₀ at out' r (i + 1)
+-- rows, one after the other
+module _ (f : ℕ → List ℕ) where
+  pub no_rows : (a : Printer) → Put (rows f 0) a a
   unfolding rows
-  rows_next h w = record { so_far = omega arith; long = same_long w ∙ p.long; written = rw add-one (one_then p.written w) }
+  no_rows a = put_nothing a
 
-  pub rows_end : n ≤ i → Written out₀ at (rows f n) end out
-  rows_end h =
-      let e : n ≡ i = omega arith in
-      rw e p.written
+  pub rows_next : {i : ℕ} {a b c : Printer} → Put (rows f i) a b → Put (f i) b c → Put (rows f (i + 1)) a c
+  unfolding rows
+  rows_next p q = rw add-one (put_then p q)

@@ -2,7 +2,7 @@
 use Rattle.std.specs.Prelude.{ℕ, ◌≡◌, List, [], ◌∷◌, length}
 use Rattle.laws.specs.Lent.{Lent, old, new, Kept}
 use Rattle.answers.specs.declared.Answer.{Answer}
-use Rattle.answers.specs.declared.Case.{Case}
+use Rattle.answers.specs.Answers.{Case}
 use Rattle.lists.specs.Lists.{prefix_sum_runs}
 use Rattle.answers.specs.Answers.{side_case, lane_case, log_case}
 use Rattle.answers.specs.Entry.{Entry, CodesLogged}

@@ -2,49 +2,38 @@
 #![tactic(auto)]
 
 ghost use Rattle.std.specs.Prelude.{◌≡◌, ◌≤◌, length};
-ghost use Rattle.laws.specs.Lent.{new};
+ghost use Rattle.laws.specs.Lent.{new, old};
 ghost use Rattle.laws.specs.Tables.{entries};
+ghost use Rattle.prefix.specs.Results.{prefix_sum_lane};
 ghost use Rattle.lists.specs.Lists.{prefix_sum_runs};
-ghost use Rattle.answers.specs.Answers.{verdict, accepted_by};
+ghost use Rattle.answers.specs.Answers.{verdict, answer_of, accepted_by};
 ghost use Rattle.ranking.specs.Ranks.{aim_in, aim_of, ranks};
 ghost use Rattle.ranking.specs.Inside.{Summed, GoodMarks};
 ghost use Rattle.ranking.specs.Entries.{rank_cases, Ranked};
 
-use answers::{Answer, accepted_by, lane_case, log_case, refusing, refusing_lane};
+use answers::{Moves, Refusal, check_lane, check_log, check_side, moves_of};
 use lists::prefix_sum_runs;
-use marks::marks_case;
+use marks::check_marks;
 use prefix::{prefix_least, prefix_words};
 use runs::write_codes;
-
-fn wide(mark: u8) -> u32
-    ensures { result ≡ mark }
-{
-    mark as u32
-}
 
 // The marks as words.
 fn load_marks(marks: &[u8], sums: &mut [u32])
     requires { length marks.now ≡ length sums.old }
     ensures { new sums ≡ marks.now }
 {
-    let mut i: usize = 0;
-    while i < marks.len() {
-        let word = wide(marks[i]);
-        sums[i] = word;
-        i += 1;
+    for i in 0..marks.len() {
+        sums[i] = u32::from(marks[i]);
     }
 }
 
+// One is taken off first, so that no branch hangs on the mark.
 fn aim(mark: u8, sum: u32) -> u16
     requires { sum ≤ 4096 }
     ensures { result ≡ aim_of mark sum }
 {
-    if mark == 1 {
-        if 0 < sum {
-            return (sum - 1) as u16;
-        }
-    }
-    0
+    let rank = sum.saturating_sub(1) as u16;
+    if mark == 1 { rank } else { 0 }
 }
 
 // The aims, of the marks and their prefix sums.
@@ -53,106 +42,72 @@ fn set_aims(marks: &[u8], sums: &[u32], aims: &mut [u16])
     requires aims_len { length aims.old ≡ length marks.now }
     ensures { new aims ≡ entries (aim_in marks.now) 0 (length marks.now) }
 {
-    let mut i: usize = 0;
-    while i < marks.len() {
-        let mark = marks[i];
-        let sum = sums[i];
-        aims[i] = aim(mark, sum);
-        i += 1;
+    for i in 0..marks.len() {
+        aims[i] = aim(marks[i], sums[i]);
     }
 }
 
-// The ranks, by way of the prefix sums of the marks, in a lane of words that is lent for them.
-fn rank_lanes(side: usize, marks: &[u8], sums: &mut [u32], aims: &mut [u16])
+// The prefix sums of a lane of at most N words. On a board of side 2 at most they are made without the room that they have for larger ones.
+fn sum_up<const N: usize>(side: usize, sums: &mut [u32])
+    requires { length sums.old ≤ N }
+    ensures { new sums ≡ prefix_sum_lane side (old sums) }
+{
+    if N <= 16 {
+        prefix_least(side, sums);
+    } else {
+        prefix_words(side, sums);
+    }
+}
+
+// The ranks, by way of the prefix sums of the marks. The lane of sums is cleared, so it is not to be much too long.
+fn write_within<const N: usize>(side: usize, marks: &[u8], aims: &mut [u16])
     requires good_marks { GoodMarks side marks.now }
-    requires marks_len { length marks.now ≡ length sums.old }
     requires aims_len { length aims.old ≡ length marks.now }
+    requires marks_len_bound { length marks.now ≤ N }
+    requires few { N ≤ 4096 }
     ensures { new aims ≡ ranks side marks.now }
 {
+    let mut sums = [0u32; N];
+    let sums = &mut sums[..marks.len()];
     load_marks(marks, sums);
-    prefix_words(side, sums);
-    set_aims(marks, &sums[..], aims);
+    sum_up::<N>(side, sums);
+    set_aims(marks, sums, aims);
 }
 
-// The same on a board of side 2 at most, without the room that the prefix sum has for larger ones.
-fn rank_least(side: usize, marks: &[u8], sums: &mut [u32], aims: &mut [u16])
-    requires good_marks { GoodMarks side marks.now }
-    requires marks_len { length marks.now ≡ length sums.old }
-    requires aims_len { length aims.old ≡ length marks.now }
-    requires marks_len_bound { length marks.now ≤ 16 }
-    ensures { new aims ≡ ranks side marks.now }
-{
-    load_marks(marks, sums);
-    prefix_least(side, sums);
-    set_aims(marks, &sums[..], aims);
-}
-
-// On a board of side 2 at most, of side 4 at most, and of any: the lane of sums is cleared, so it is not to be much too long.
-fn write_least(side: usize, marks: &[u8], aims: &mut [u16])
-    requires good_marks { GoodMarks side marks.now }
-    requires aims_len { length aims.old ≡ length marks.now }
-    requires marks_len_bound { length marks.now ≤ 16 }
-    ensures { new aims ≡ ranks side marks.now }
-{
-    let mut sums = [0u32; 16];
-    let n = marks.len();
-    rank_least(side, marks, &mut sums[..n], aims);
-}
-
-fn write_few(side: usize, marks: &[u8], aims: &mut [u16])
-    requires good_marks { GoodMarks side marks.now }
-    requires aims_len { length aims.old ≡ length marks.now }
-    requires marks_len_bound { length marks.now ≤ 256 }
-    ensures { new aims ≡ ranks side marks.now }
-{
-    let mut sums = [0u32; 256];
-    let n = marks.len();
-    rank_lanes(side, marks, &mut sums[..n], aims);
-}
-
-fn write_many(side: usize, marks: &[u8], aims: &mut [u16])
-    requires good_marks { GoodMarks side marks.now }
-    requires aims_len { length aims.old ≡ length marks.now }
-    requires marks_len_bound { length marks.now ≤ 4096 }
-    ensures { new aims ≡ ranks side marks.now }
-{
-    let mut sums = [0u32; 4096];
-    let n = marks.len();
-    rank_lanes(side, marks, &mut sums[..n], aims);
-}
-
+// On a board of side 2 at most, of side 4 at most, and of any.
 fn write_ranks(side: usize, marks: &[u8], aims: &mut [u16])
     requires good_marks { GoodMarks side marks.now }
     requires aims_len { length aims.old ≡ length marks.now }
     ensures { new aims ≡ ranks side marks.now }
 {
     if marks.len() <= 16 {
-        write_least(side, marks, aims);
+        write_within::<16>(side, marks, aims);
     } else if marks.len() <= 256 {
-        write_few(side, marks, aims);
+        write_within::<256>(side, marks, aims);
     } else {
-        write_many(side, marks, aims);
+        write_within::<4096>(side, marks, aims);
     }
 }
 
-fn judge_rank(side: usize, marks: &[u8], aims: usize, log: usize) -> Answer
-    ensures { result ≡ verdict (rank_cases side marks.now aims log) (accepted_by (prefix_sum_runs side)) }
+// The moves of rank, or why it refuses.
+fn judge_rank(side: usize, marks: &[u8], aims: usize, log: usize) -> Result<Moves, Refusal>
+    ensures { answer_of result ≡ verdict (rank_cases side marks.now aims log) (accepted_by (prefix_sum_runs side)) }
 {
     let runs = prefix_sum_runs(side);
-    let good = refusing(marks_case(marks), accepted_by(runs));
-    let room = refusing(log_case(runs, log), good);
-    refusing_lane(side, marks.len(), refusing(lane_case(side, aims), room))
+    check_side(side)?;
+    check_lane(side, marks.len())?;
+    check_lane(side, aims)?;
+    check_log(runs, log)?;
+    check_marks(marks)?;
+    Ok(moves_of(runs))
 }
 
 // Writes each marked cell's rank into its aim, and 0 into every other.
-pub fn rank(side: usize, marks: &[u8], aims: &mut [u16], codes: &mut [u8]) -> Answer
-    ensures { Ranked side marks.now aims codes result }
+pub fn rank(side: usize, marks: &[u8], aims: &mut [u16], codes: &mut [u8]) -> Result<Moves, Refusal>
+    ensures { Ranked side marks.now aims codes (answer_of result) }
 {
-    let answer = judge_rank(side, marks, aims.len(), codes.len());
-    if answer.number != 0 {
-        return answer;
-    }
+    let moves = judge_rank(side, marks, aims.len(), codes.len())?;
     write_ranks(side, marks, aims);
     write_codes(prefix_sum_runs(side), codes, 0);
-    answer
+    Ok(moves)
 }

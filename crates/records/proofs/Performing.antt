@@ -25,7 +25,7 @@ use Rattle.lists.specs.Lists.{total_moves, runs_of}
 use Rattle.lists.proofs.Counts.{concentrate_length, distribute_length}
 use Rattle.travel.proofs.Listed.{times_of}
 use Rattle.travel.proofs.Collide.{at_the_end}
-use Rattle.light.specs.Lanes.{are_lanes}
+use Rattle.array.specs.Lent.{are_lanes}
 use Rattle.slots.specs.declared.Rec.{Rec}
 use Rattle.slots.specs.declared.Cell.{Cell}
 use Rattle.slots.specs.Cells.{cell_at, Sized, record_in, alone, empty}

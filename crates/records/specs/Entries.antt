@@ -3,6 +3,7 @@ use Rattle.std.specs.Prelude.{ℕ, ◌≡◌, List, length}
 use Rattle.laws.specs.Lent.{Lent, old, Kept}
 use Rattle.answers.specs.declared.Answer.{Answer}
 use Rattle.answers.specs.Entry.{Entry, Unlogged, LogWritten, CodesLogged}
+use Rattle.array.specs.Lent.{PassedLanes, of_lanes}
 use Rattle.light.specs.Lanes.{table_before, table_after}
 use Rattle.slots.specs.declared.Cell.{Cell}
 use Rattle.slots.specs.Lanes.{cells_after}
@@ -44,3 +45,10 @@ CutRun trip s cut w m a w₂ m₂ a₂ =
     (first_runs cut (runs_of trip s))
     (Stood trip s cut (old w) (old m) (old a) (cells_after w m a w₂ m₂ a₂))
     (Unchanged w m a w₂ m₂ a₂)
+
+-- the same of lanes that are lent as one
+abbrev pub FullRunLent : Trip → ℕ → PassedLanes → (codes moved : Lent) → Answer → Type 0
+FullRunLent trip s lanes codes moved r = of_lanes (λ w m a w₂ m₂ a₂. FullRun trip s w m a w₂ m₂ a₂ codes moved r) lanes
+
+abbrev pub CutRunLent : Trip → ℕ → ℕ → PassedLanes → Answer → Type 0
+CutRunLent trip s cut lanes r = of_lanes (λ w m a w₂ m₂ a₂. CutRun trip s cut w m a w₂ m₂ a₂ r) lanes

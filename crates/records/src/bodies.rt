@@ -1,97 +1,56 @@
 // A run of either list, whole or up to a cut.
 ghost use Rattle.std.specs.Prelude.{◌≡◌, true, ◌≤◌};
+ghost use Rattle.answers.specs.Answers.{answer_of};
 ghost use Rattle.array.specs.Cells.{is_side, cells};
+ghost use Rattle.array.specs.Lent.{SameLanes};
 ghost use Rattle.lists.specs.Lists.{total_moves};
-ghost use Rattle.slots.specs.Lanes.{Long};
+ghost use Rattle.slots.specs.Lanes.{LongLent};
 ghost use Rattle.refusals.specs.Cases.{Good};
-ghost use Rattle.records.specs.Entries.{FullRun, CutRun};
+ghost use Rattle.records.specs.Entries.{FullRunLent, CutRunLent};
 ghost use Rattle.records.specs.Inside.{Performed};
 
-use answers::Answer;
-use clearing::{keep_aims, keep_words, zero_aims, zero_marks, zero_words};
+use answers::{Moves, Refusal};
+use array::lent::LentLanes;
+use clearing::{empty, keep_marked};
 use lists::{Trip, runs_of, total_moves};
 use mover::run;
-use refusals::{Sizes, judge_cut, judge_full};
+use refusals::{Frame, judge_cut, judge_full};
 use runs::write_codes;
 
 // Clears spare lanes and unmarked cells, and makes so many first moves of the list.
-fn perform(
-    trip: Trip,
-    side: usize,
-    moves: usize,
-    words: &mut [u32],
-    marks: &mut [u8],
-    aims: &mut [u16],
-    spare_words: &mut [u32],
-    spare_marks: &mut [u8],
-    spare_aims: &mut [u16],
-    moved: &mut [u16],
-)
+fn perform(trip: Trip, side: usize, moves: usize, lanes: &mut LentLanes, moved: &mut [u16])
     requires side_value { is_side side ≡ true }
-    requires long { Long (cells side) words marks aims spare_words spare_marks spare_aims }
+    requires long { LongLent (cells side) lanes.old }
     requires moves_bound { moves ≤ total_moves side }
-    requires good { Good trip side marks.old aims.old }
-    ensures { Performed trip side moves words marks aims spare_words spare_marks spare_aims moved }
+    requires good { Good trip side lanes.old.front.now.marks.now lanes.old.front.now.aims.now }
+    ensures same { SameLanes lanes.old lanes.new }
+    ensures performed { Performed trip side moves lanes moved }
 {
-    zero_words(spare_words);
-    zero_marks(spare_marks);
-    zero_aims(spare_aims);
-    keep_words(marks, words);
-    keep_aims(marks, aims);
-    run(
-        trip,
-        side,
-        runs_of(trip, side),
-        moves,
-        words,
-        marks,
-        aims,
-        spare_words,
-        spare_marks,
-        spare_aims,
-        moved,
-    );
+    empty(lanes.spare);
+    keep_marked(lanes.front);
+    run(trip, side, runs_of(trip, side), moves, lanes, moved);
 }
 
 // A full run of either list.
 pub(crate) fn full(
     trip: Trip,
     side: usize,
-    words: &mut [u32],
-    marks: &mut [u8],
-    aims: &mut [u16],
-    spare_words: &mut [u32],
-    spare_marks: &mut [u8],
-    spare_aims: &mut [u16],
+    lanes: &mut LentLanes,
     codes: &mut [u8],
     moved: &mut [u16],
-) -> Answer
-    ensures { FullRun trip side words marks aims spare_words spare_marks spare_aims codes moved result }
+) -> Result<Moves, Refusal>
+    ensures same { SameLanes lanes.old lanes.new }
+    ensures run { FullRunLent trip side lanes codes moved (answer_of result) }
 {
-    let sizes = Sizes {
-        words: words.len(),
-        spare_words: spare_words.len(),
-        spare_marks: spare_marks.len(),
-        spare_aims: spare_aims.len(),
-    };
-    let answer = judge_full(trip, side, sizes, marks, aims, codes.len(), moved.len());
-    if answer.number != 0 {
-        return answer;
-    }
-    write_codes(runs_of(trip, side), codes, 0);
-    perform(
+    let moves = judge_full(
         trip,
-        side,
-        total_moves(side),
-        words,
-        marks,
-        aims,
-        spare_words,
-        spare_marks,
-        spare_aims,
-        moved,
-    );
-    answer
+        Frame::new(side, lanes.front, lanes.spare),
+        codes.len(),
+        moved.len(),
+    )?;
+    write_codes(runs_of(trip, side), codes, 0);
+    perform(trip, side, total_moves(side), lanes, moved);
+    Ok(moves)
 }
 
 // A run of either list up to a cut, with no log.
@@ -99,37 +58,13 @@ pub(crate) fn cut_short(
     trip: Trip,
     side: usize,
     cut: usize,
-    words: &mut [u32],
-    marks: &mut [u8],
-    aims: &mut [u16],
-    spare_words: &mut [u32],
-    spare_marks: &mut [u8],
-    spare_aims: &mut [u16],
-) -> Answer
-    ensures { CutRun trip side cut words marks aims spare_words spare_marks spare_aims result }
+    lanes: &mut LentLanes,
+) -> Result<Moves, Refusal>
+    ensures same { SameLanes lanes.old lanes.new }
+    ensures run { CutRunLent trip side cut lanes (answer_of result) }
 {
-    let sizes = Sizes {
-        words: words.len(),
-        spare_words: spare_words.len(),
-        spare_marks: spare_marks.len(),
-        spare_aims: spare_aims.len(),
-    };
-    let answer = judge_cut(trip, side, cut, sizes, marks, aims);
-    if answer.number != 0 {
-        return answer;
-    }
+    let moves = judge_cut(trip, cut, Frame::new(side, lanes.front, lanes.spare))?;
     let mut unlogged = [0u16; 1];
-    perform(
-        trip,
-        side,
-        cut,
-        words,
-        marks,
-        aims,
-        spare_words,
-        spare_marks,
-        spare_aims,
-        &mut unlogged,
-    );
-    answer
+    perform(trip, side, cut, lanes, &mut unlogged);
+    Ok(moves)
 }

@@ -3,117 +3,54 @@
 
 mod bodies;
 
+ghost use Rattle.answers.specs.Answers.{answer_of};
+ghost use Rattle.array.specs.Lent.{SameLanes};
 ghost use Rattle.lists.specs.declared.Trip.TheVariants.{Concentrate, Distribute};
-ghost use Rattle.records.specs.Entries.{FullRun, CutRun};
+ghost use Rattle.records.specs.Entries.{FullRunLent, CutRunLent};
 
 use crate::bodies::{cut_short, full};
-use answers::Answer;
+use answers::{Moves, Refusal};
+use array::lent::LentLanes;
 use lists::Trip;
 
 // Every record goes to the cell of its rank.
 pub fn concentrate(
     side: usize,
-    words: &mut [u32],
-    marks: &mut [u8],
-    aims: &mut [u16],
-    spare_words: &mut [u32],
-    spare_marks: &mut [u8],
-    spare_aims: &mut [u16],
+    lanes: &mut LentLanes,
     codes: &mut [u8],
     moved: &mut [u16],
-) -> Answer
-    ensures { FullRun Concentrate side words marks aims spare_words spare_marks spare_aims codes moved result }
+) -> Result<Moves, Refusal>
+    ensures same { SameLanes lanes.old lanes.new }
+    ensures run { FullRunLent Concentrate side lanes codes moved (answer_of result) }
 {
-    full(
-        Trip::Concentrate,
-        side,
-        words,
-        marks,
-        aims,
-        spare_words,
-        spare_marks,
-        spare_aims,
-        codes,
-        moved,
-    )
+    full(Trip::Concentrate, side, lanes, codes, moved)
 }
 
 // The first moves of it, up to a cut.
-pub fn concentrate_cut(
-    side: usize,
-    cut: usize,
-    words: &mut [u32],
-    marks: &mut [u8],
-    aims: &mut [u16],
-    spare_words: &mut [u32],
-    spare_marks: &mut [u8],
-    spare_aims: &mut [u16],
-) -> Answer
-    ensures { CutRun Concentrate side cut words marks aims spare_words spare_marks spare_aims result }
+pub fn concentrate_cut(side: usize, cut: usize, lanes: &mut LentLanes) -> Result<Moves, Refusal>
+    ensures same { SameLanes lanes.old lanes.new }
+    ensures run { CutRunLent Concentrate side cut lanes (answer_of result) }
 {
-    cut_short(
-        Trip::Concentrate,
-        side,
-        cut,
-        words,
-        marks,
-        aims,
-        spare_words,
-        spare_marks,
-        spare_aims,
-    )
+    cut_short(Trip::Concentrate, side, cut, lanes)
 }
 
 // Every record goes to the cell that its aim names.
 pub fn distribute(
     side: usize,
-    words: &mut [u32],
-    marks: &mut [u8],
-    aims: &mut [u16],
-    spare_words: &mut [u32],
-    spare_marks: &mut [u8],
-    spare_aims: &mut [u16],
+    lanes: &mut LentLanes,
     codes: &mut [u8],
     moved: &mut [u16],
-) -> Answer
-    ensures { FullRun Distribute side words marks aims spare_words spare_marks spare_aims codes moved result }
+) -> Result<Moves, Refusal>
+    ensures same { SameLanes lanes.old lanes.new }
+    ensures run { FullRunLent Distribute side lanes codes moved (answer_of result) }
 {
-    full(
-        Trip::Distribute,
-        side,
-        words,
-        marks,
-        aims,
-        spare_words,
-        spare_marks,
-        spare_aims,
-        codes,
-        moved,
-    )
+    full(Trip::Distribute, side, lanes, codes, moved)
 }
 
 // The first moves of it, up to a cut.
-pub fn distribute_cut(
-    side: usize,
-    cut: usize,
-    words: &mut [u32],
-    marks: &mut [u8],
-    aims: &mut [u16],
-    spare_words: &mut [u32],
-    spare_marks: &mut [u8],
-    spare_aims: &mut [u16],
-) -> Answer
-    ensures { CutRun Distribute side cut words marks aims spare_words spare_marks spare_aims result }
+pub fn distribute_cut(side: usize, cut: usize, lanes: &mut LentLanes) -> Result<Moves, Refusal>
+    ensures same { SameLanes lanes.old lanes.new }
+    ensures run { CutRunLent Distribute side cut lanes (answer_of result) }
 {
-    cut_short(
-        Trip::Distribute,
-        side,
-        cut,
-        words,
-        marks,
-        aims,
-        spare_words,
-        spare_marks,
-        spare_aims,
-    )
+    cut_short(Trip::Distribute, side, cut, lanes)
 }

@@ -11,7 +11,7 @@ use lib.ListN.{length, get_or}
 use Rattle.laws.proofs.Deciding.{apart}
 use Rattle.laws.proofs.Searching.{all_passed}
 use Rattle.answers.specs.declared.Answer.{Answer}
-use Rattle.answers.specs.declared.Case.{Case}
+use Rattle.answers.specs.Answers.{Case}
 use Rattle.array.specs.Cells.{is_side, cells}
 use Rattle.runs.specs.Runs.{moves}
 use Rattle.answers.specs.Answers.{verdict, log_case}

@@ -1,20 +1,21 @@
 -- The checks as they are made, cell after cell and run after run.
 use Prim.Native.Nat.{ℕ, zero, suc, ◌+◌, ◌-◌, ◌≤◌, ◌<◌, min}
 use mathlib.Core.Path.{◌≡◌, refl, sym, ap, ◌∙◌}
-use mathlib.Core.Bool.{Bool, true, false}
+use mathlib.Core.Bool.{Bool, true, false, cond}
 use mathlib.Core.List.{List, [], ◌∷◌, ◌++◌, append_assoc}
 use native.Mathlib.Numerals.{add-one}
 use native.Mathlib.Omega.{arith}
 use borrow.Author.Tests.{lt-ltb, le-ltb}
+use lib.Dec.{ltb}
 use lib.ListN.{length, get_or, take, drop, set, length-set, drop_of_length-le}
 use lib.Seq.{drop-cons, take-suc-set, take_all}
 use Rattle.laws.proofs.Searching.{Searching, searching_start, searching_next, searching_found, searching_none}
-use Rattle.answers.specs.Answers.{case_of}
 use Rattle.runs.specs.declared.Run.{Run}
 use Rattle.lists.specs.declared.Trip.{Trip}
 use Rattle.lists.specs.declared.Trip.TheVariants.{Concentrate, Distribute}
 use Rattle.marks.specs.Marks.{rank_in}
-use Rattle.refusals.specs.Cases.{bad_in, bad_aim, first_aim, aims_case}
+use Rattle.refusals.specs.Cases.{bad_in, bad_aim, first_aim}
+use Rattle.std.specs.Prelude.{Some, None}
 use Rattle.refusals.specs.Cuts.{first_runs}
 
 -- the cells below i are right
@@ -57,12 +58,12 @@ module _ {trip : Trip} {s : ℕ} {marks aims : List ℕ} {rank previous i : ℕ}
   }
 
   pub judging_bad : {b : Bool} → i < length marks → b ≡ bad_in trip s i rank (get_or marks i 0) (get_or aims i 0) previous → b ≡ true
-      → case_of true 6 i ≡ aims_case trip s marks aims
+      → Some i ≡ cond (ltb (first_aim trip s marks aims) (length marks)) (Some (first_aim trip s marks aims)) None
   judging_bad h e f =
       let x : first_aim trip s marks aims ≡ i = searching_found (bad_aim trip s marks aims) (length marks) h (sym judged ∙ sym e ∙ f) z.searching in
       rw (x, lt-ltb i (length marks) h)
 
-  pub judging_good : length marks ≤ i → case_of false 6 (length marks) ≡ aims_case trip s marks aims
+  pub judging_good : length marks ≤ i → None ≡ cond (ltb (first_aim trip s marks aims) (length marks)) (Some (first_aim trip s marks aims)) None
   judging_good h =
       let x : first_aim trip s marks aims ≡ length marks = searching_none (bad_aim trip s marks aims) (length marks) h z.searching in
       rw (x, le-ltb (length marks) (length marks) (omega arith))

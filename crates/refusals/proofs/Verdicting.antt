@@ -1,17 +1,18 @@
 -- The verdicts of the entries: made in two steps, and what is known where no case applies.
-use Prim.Native.Nat.{ℕ, ◌-◌, ◌*◌, ◌≤◌, ◌<◌}
+use Prim.Native.Nat.{ℕ, ◌-◌, ◌*◌, ◌≤◌}
 use mathlib.Core.Path.{◌≡◌, refl, sym, ◌∙◌}
 use mathlib.Core.Bool.{true, false, ◌&&◌}
 use mathlib.Core.List.{List, [], ◌∷◌, ◌++◌}
 use native.Mathlib.Omega.{arith}
 use borrow.Author.Tests.{ltb-false}
 use lib.Dec.{ltb}
-use lib.ListN.{length, get_or}
+use lib.ListN.{length}
 use Rattle.laws.proofs.Searching.{none_found}
 use Rattle.answers.specs.declared.Answer.{Answer}
-use Rattle.answers.specs.declared.Case.{Case}
+use Rattle.answers.specs.Answers.{Case}
+use Rattle.array.specs.declared.lent.LentSlots.{LentSlots}
 use Rattle.array.specs.Cells.{is_side, cells}
-use Rattle.answers.specs.Answers.{accepted, accepted_by, verdict, log_case}
+use Rattle.answers.specs.Answers.{accepted, accepted_by, verdict, without_logs, log_case}
 use Rattle.array.proofs.Board.{side_known}
 use Rattle.answers.proofs.Verdicts.{NoneApplies, none_refuses, counted, side_built, lane_whole}
 use Rattle.lists.specs.declared.Trip.{Trip}
@@ -21,9 +22,14 @@ use Rattle.lists.proofs.Counts.{concentrate_electronic, distribute_electronic}
 use Rattle.marks.specs.Marks.{marks_case}
 use Rattle.marks.proofs.Checked.{good_marks}
 use Rattle.refusals.specs.declared.Sizes.{Sizes}
-use Rattle.refusals.specs.Cases.{bad_aim, aims_case, cut_case, lane_cases, full_cases, cut_cases, Good}
+use Rattle.refusals.specs.Cases.{bad_aim, aims_case, cut_case, lane_cases, lanes_of, sizes_in, Framed, full_cases, full_of, cut_cases, cut_of, Good}
+use Rattle.refusals.specs.Inside.{GoodMarks}
+use Rattle.refusals.specs.declared.Frame.{Frame}
+use Rattle.std.specs.Prelude.{Result, Ok}
+use Rattle.answers.specs.declared.Refusal.{Refusal}
+use Rattle.answers.specs.Judged.{Judged}
+use Rattle.answers.proofs.Judging.{none_judged}
 use Rattle.refusals.specs.Cuts.{first_runs}
-use Rattle.refusals.specs.Inside.{early_full, early_cut}
 
 -- the counts of a full run
 pub trip_counts : (trip : Trip) (s : ℕ) → is_side s ≡ true → accepted_by (runs_of trip s) ≡ accepted (7 * (s - 1)) 2
@@ -95,19 +101,26 @@ cut_known trip s cut n marks aims e h =
     record { fits = f; good = good_by trip s marks aims o.0 o.1.0; inside = ltb-false (total_moves s) cut (rw f.side at x) }
 
 -- what the judging of the aims may take for granted
-pub record Halfway (s : ℕ) (marks aims : List ℕ) : Type 0 where
-  pub lengths : (length marks ≡ length aims) × (length marks ≤ 4096)
-  pub good : (i : ℕ) → i < length marks → get_or marks i 0 < 2
+pub good_frame : (t : Frame) {r q : Result (Unit {0}) Refusal} {u v : Unit {0}} → Judged (lanes_of t) r → r ≡ Ok u → Judged (marks_case t.marks.now ∷ []) q → q ≡ Ok v
+    → GoodMarks t.marks.now t.aims.now
+good_frame t j e k f =
+    let z = fitting t.side (length t.marks.now) (length t.aims.now) t.sizes [] (none_judged j refl e) in
+    record {
+      long = z.marks ∙ sym z.aims;
+      few = omega (arith, z.marks, (side_known t.side z.side).cells_few);
+      good = good_marks t.marks.now (none_judged k refl f).0;
+    }
 
-halfway : (s : ℕ) (n : Sizes) (marks aims : List ℕ) (rest : List Case) → NoneApplies (lane_cases s (length marks) (length aims) n ++ rest)
-    → (marks_case marks).applies ≡ false → Halfway s marks aims
-halfway s n marks aims rest k g =
-    let f = fitting s (length marks) (length aims) n rest k in
-    record { lengths = (f.marks ∙ sym f.aims, omega (arith, f.marks, (side_known s f.side).cells_few)); good = good_marks marks g }
+-- the answers of a frame are those of the lanes that it was made of
+module _ {s : ℕ} {t u : LentSlots} {f : Frame} (z : Framed s t u f) (trip : Trip) {r : Answer} where
+  pub full_framed : (codes moved : ℕ) → r ≡ verdict (full_of trip f codes moved) (accepted_by (runs_of trip f.side))
+      → r ≡ verdict (full_cases trip s (sizes_in t u) t.marks.now t.aims.now codes moved) (accepted_by (runs_of trip s))
+  full_framed codes moved e = rw (z.side, z.sizes, z.marks, z.aims) at e
 
-pub full_halfway : (trip : Trip) (s : ℕ) (n : Sizes) (marks aims : List ℕ) (codes moved : ℕ) → NoneApplies (early_full trip s n marks (length aims) codes moved) → Halfway s marks aims
-full_halfway trip s n marks aims codes moved k =
-    halfway s n marks aims (log_case (runs_of trip s) codes ∷ log_case (runs_of trip s) moved ∷ marks_case marks ∷ []) k k.1.1.1.1.1.1.1.1.1.0
+  pub cut_framed : (cut : ℕ) → r ≡ verdict (cut_of trip cut f) (accepted_by (first_runs cut (runs_of trip f.side)))
+      → r ≡ verdict (cut_cases trip s cut (sizes_in t u) t.marks.now t.aims.now) (accepted_by (first_runs cut (runs_of trip s)))
+  cut_framed cut e = rw (z.side, z.sizes, z.marks, z.aims) at e
 
-pub cut_halfway : (s : ℕ) (n : Sizes) (marks aims : List ℕ) → NoneApplies (early_cut s n marks (length aims)) → Halfway s marks aims
-cut_halfway s n marks aims k = halfway s n marks aims (marks_case marks ∷ []) k k.1.1.1.1.1.1.1.0
+  pub unlogged_framed : (a : Answer) → r ≡ verdict (without_logs (full_of trip f 0 0)) a
+      → r ≡ verdict (without_logs (full_cases trip s (sizes_in t u) t.marks.now t.aims.now 0 0)) a
+  unlogged_framed a e = rw (z.side, z.sizes, z.marks, z.aims) at e

@@ -1,7 +1,8 @@
 -- When concentrate and distribute refuse, case by case in the order of their numbers.
 use Rattle.std.specs.Prelude.{ℕ, ◌-◌, ◌<◌, ◌≡◌, Bool, false, not, ◌&&◌, ◌||◌, List, [], ◌∷◌, ◌++◌, ltb, leb, eqb, length, get_or}
 use Rattle.laws.specs.Searching.{first}
-use Rattle.answers.specs.declared.Case.{Case}
+use Rattle.answers.specs.Answers.{Case}
+use Rattle.array.specs.declared.lent.LentSlots.{LentSlots}
 use Rattle.array.specs.Cells.{is_side, is_cell}
 use Rattle.answers.specs.Answers.{case_of, side_case, lane_case, log_case}
 use Rattle.lists.specs.declared.Trip.{Trip}
@@ -9,6 +10,7 @@ use Rattle.lists.specs.declared.Trip.TheVariants.{Concentrate, Distribute}
 use Rattle.lists.specs.Lists.{total_moves, runs_of}
 use Rattle.marks.specs.Marks.{rank_in, marks_case}
 use Rattle.refusals.specs.declared.Sizes.{Sizes}
+use Rattle.refusals.specs.declared.Frame.{Frame}
 
 abbrev pub marked : List ℕ → ℕ → Bool
 marked marks i = eqb (get_or marks i 0) 1
@@ -49,6 +51,30 @@ full_cases trip s n marks aims codes moved =
 abbrev pub cut_cases : Trip → ℕ → ℕ → Sizes → List ℕ → List ℕ → List Case
 cut_cases trip s cut n marks aims =
     lane_cases s (length marks) (length aims) n ++ (marks_case marks ∷ aims_case trip s marks aims ∷ cut_case s cut ∷ [])
+
+-- the lengths of lanes that are lent, of the front slots and of the spare ones
+abbrev pub sizes_in : LentSlots → LentSlots → Sizes
+sizes_in t u = record { words = length t.words.now; spare_words = length u.words.now; spare_marks = length u.marks.now; spare_aims = length u.aims.now }
+
+-- they are this frame
+pub record Framed (s : ℕ) (t u : LentSlots) (f : Frame) : Type 0 where
+  pub side : f.side ≡ s
+  pub sizes : f.sizes ≡ sizes_in t u
+  pub marks : f.marks.now ≡ t.marks.now
+  pub aims : f.aims.now ≡ t.aims.now
+
+-- the same cases, of a frame
+abbrev pub lanes_of : Frame → List Case
+lanes_of t = lane_cases t.side (length t.marks.now) (length t.aims.now) t.sizes
+
+abbrev pub aims_of : Trip → Frame → Case
+aims_of trip t = aims_case trip t.side t.marks.now t.aims.now
+
+abbrev pub full_of : Trip → Frame → ℕ → ℕ → List Case
+full_of trip t = full_cases trip t.side t.sizes t.marks.now t.aims.now
+
+abbrev pub cut_of : Trip → ℕ → Frame → List Case
+cut_of trip cut t = cut_cases trip t.side cut t.sizes t.marks.now t.aims.now
 
 -- marks and aims that are not refused
 pub record Good (trip : Trip) (s : ℕ) (marks aims : List ℕ) : Type 0 where

@@ -1,21 +1,21 @@
 -- What private functions' contracts cite; the public contracts are read without it.
-use Rattle.std.specs.Prelude.{ℕ, ◌-◌, ◌<◌, ◌≡◌, Bool, true, false, List, [], ◌∷◌, ◌++◌, length, get_or}
+use Rattle.std.specs.Prelude.{ℕ, ◌-◌, ◌<◌, ◌≤◌, ◌≡◌, Bool, true, false, cond, ltb, Option, Some, None, List, length, get_or}
 use Rattle.array.specs.Cells.{is_cell}
-use Rattle.answers.specs.declared.Case.{Case}
-use Rattle.answers.specs.Answers.{log_case}
 use Rattle.lists.specs.declared.Trip.{Trip}
-use Rattle.lists.specs.Lists.{runs_of}
-use Rattle.marks.specs.Marks.{marks_case}
-use Rattle.refusals.specs.declared.Sizes.{Sizes}
-use Rattle.refusals.specs.Cases.{bad_aim, lane_cases}
+use Rattle.refusals.specs.declared.Frame.{Frame}
+use Rattle.refusals.specs.Cases.{bad_aim, first_aim}
 
--- the cases before that of the aims: of a full run, and of a run without logs, as a cut run is
-abbrev pub early_full : Trip → ℕ → Sizes → List ℕ → ℕ → ℕ → ℕ → List Case
-early_full trip s n marks aims codes moved =
-    lane_cases s (length marks) aims n ++ (log_case (runs_of trip s) codes ∷ log_case (runs_of trip s) moved ∷ marks_case marks ∷ [])
+-- the first cell whose aim is wrong, if there is one
+abbrev pub found_aim : Trip → Frame → Option ℕ
+found_aim trip t =
+    let i = first_aim trip t.side t.marks.now t.aims.now in
+    cond (ltb i (length t.marks.now)) (Some i) None
 
-abbrev pub early_cut : ℕ → Sizes → List ℕ → ℕ → List Case
-early_cut s n marks aims = lane_cases s (length marks) aims n ++ (marks_case marks ∷ [])
+-- marks that are 0 or 1, no more than a board has, and as many aims
+pub record GoodMarks (marks aims : List ℕ) : Type 0 where
+  pub long : length marks ≡ length aims
+  pub few : length marks ≤ 4096
+  pub good : (i : ℕ) → i < length marks → get_or marks i 0 < 2
 
 -- where a test passed: the first cells, so many, are marked; their aims rise; the last of them is a cell, if there is one
 pub record AllMarked (count : ℕ) (marks : List ℕ) (passed : Bool) : Type 0 where

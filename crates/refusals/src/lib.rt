@@ -1,21 +1,22 @@
-// When concentrate and distribute refuse: their answers, by the lengths of what is lent and by the marks and aims.
+// When concentrate and distribute refuse: what they answer, by the lengths of what is lent and by the marks and aims.
 #![tactic(auto)]
 
 mod judging;
 
 ghost use Rattle.std.specs.Prelude.{◌≡◌};
-ghost use Rattle.laws.specs.Lent.{old};
-ghost use Rattle.answers.specs.Answers.{accepted as accepted_of, accepted_by, verdict, without_logs};
+ghost use Rattle.answers.specs.Answers.{accepted, accepted_by, answer_of, verdict, without_logs};
 ghost use Rattle.lists.specs.Lists.{runs_of};
-ghost use Rattle.refusals.specs.Cases.{full_cases, cut_cases};
+ghost use Rattle.refusals.specs.Cases.{Framed, full_of, cut_of};
 ghost use Rattle.refusals.specs.Cuts.{first_runs};
 
-use crate::judging::{aims_case, cut_case, early_cut, early_full, first_runs};
-use answers::{Answer, accepted, accepted_by, refusing};
+use crate::judging::{check_aims, check_cut, check_lanes, first_runs};
+use answers::{Moves, Refusal, check_log, moves_of};
+use array::lent::LentSlots;
 use lists::{Trip, runs_of};
+use marks::check_marks;
 
 // The lengths of the lanes that are judged by their length alone.
-#[derive(Clone, Copy)]
+#[derive(Clone, Copy, Debug, PartialEq, Eq)]
 pub struct Sizes {
     pub words: usize,
     pub spare_words: usize,
@@ -23,61 +24,65 @@ pub struct Sizes {
     pub spare_aims: usize,
 }
 
-// The answer of a full run. The aims are judged last, where no case before theirs applies: then they are a board's, and the marks good.
-pub fn judge_full(
-    trip: Trip,
-    side: usize,
-    sizes: Sizes,
-    marks: &[u8],
-    aims: &[u16],
-    codes: usize,
-    moved: usize,
-) -> Answer
-    ensures { result ≡ verdict (full_cases trip side sizes marks.now aims.now codes moved) (accepted_by (runs_of trip side)) }
-{
-    let early = early_full(trip, side, sizes, marks, aims.len(), codes, moved);
-    if early.number != 0 {
-        return early;
-    }
-    refusing(aims_case(trip, side, marks, aims), early)
+// What is judged: a side, the lengths of the lanes, and the marks and aims of the front slots.
+#[derive(Clone, Copy, Debug, PartialEq, Eq)]
+pub struct Frame<'a> {
+    pub side: usize,
+    pub sizes: Sizes,
+    pub marks: &'a [u8],
+    pub aims: &'a [u16],
 }
 
-// The answer of a run up to a cut.
-pub fn judge_cut(
-    trip: Trip,
-    side: usize,
-    cut: usize,
-    sizes: Sizes,
-    marks: &[u8],
-    aims: &[u16],
-) -> Answer
-    ensures { result ≡ verdict (cut_cases trip side cut sizes marks.now aims.now) (accepted_by (first_runs cut (runs_of trip side))) }
-{
-    let runs = first_runs(runs_of(trip, side), cut);
-    let early = early_cut(side, sizes, marks, aims.len(), accepted_by(runs));
-    if early.number != 0 {
-        return early;
+impl<'a> Frame<'a> {
+    // The lanes that are lent of front slots and of spare ones, as those of a board of this side.
+    pub fn new(side: usize, front: &'a LentSlots, spare: &LentSlots) -> Frame<'a>
+        ensures { Framed side front.now spare.now result }
+    {
+        Frame {
+            side,
+            sizes: Sizes {
+                words: front.words.len(),
+                spare_words: spare.words.len(),
+                spare_marks: spare.marks.len(),
+                spare_aims: spare.aims.len(),
+            },
+            marks: front.marks,
+            aims: front.aims,
+        }
     }
-    let aimed = aims_case(trip, side, marks, aims);
-    let beyond = cut_case(side, cut);
-    refusing(aimed, refusing(beyond, early))
 }
 
-// The answer of a full run that writes no log and whose moves are so many.
-pub fn judge_unlogged(
-    trip: Trip,
-    side: usize,
-    sizes: Sizes,
-    marks: &[u8],
-    aims: &[u16],
-    electronic: usize,
-    swaps: usize,
-) -> Answer
-    ensures { result ≡ verdict (without_logs (full_cases trip side sizes marks.now aims.now 0 0)) (accepted_of electronic swaps) }
+// A full run. The aims are judged last, where no case before theirs applies: then they are a board's, and the marks good.
+pub fn judge_full(trip: Trip, frame: Frame, codes: usize, moved: usize) -> Result<Moves, Refusal>
+    ensures { answer_of result ≡ verdict (full_of trip frame.entry codes moved) (accepted_by (runs_of trip frame.entry.side)) }
 {
-    let early = early_cut(side, sizes, marks, aims.len(), accepted(electronic, swaps));
-    if early.number != 0 {
-        return early;
-    }
-    refusing(aims_case(trip, side, marks, aims), early)
+    let runs = runs_of(trip, frame.side);
+    check_lanes(frame)?;
+    check_log(runs, codes)?;
+    check_log(runs, moved)?;
+    check_marks(frame.marks)?;
+    check_aims(trip, frame)?;
+    Ok(moves_of(runs))
+}
+
+// A run up to a cut.
+pub fn judge_cut(trip: Trip, cut: usize, frame: Frame) -> Result<Moves, Refusal>
+    ensures { answer_of result ≡ verdict (cut_of trip cut frame.entry) (accepted_by (first_runs cut (runs_of trip frame.entry.side))) }
+{
+    let side = frame.side;
+    check_lanes(frame)?;
+    check_marks(frame.marks)?;
+    check_aims(trip, frame)?;
+    check_cut(side, cut)?;
+    Ok(moves_of(first_runs(runs_of(trip, side), cut)))
+}
+
+// A full run that writes no log and whose moves are these.
+pub fn judge_unlogged(trip: Trip, frame: Frame, moves: Moves) -> Result<Moves, Refusal>
+    ensures { answer_of result ≡ verdict (without_logs (full_of trip frame.entry 0 0)) (accepted moves.electronic moves.swaps) }
+{
+    check_lanes(frame)?;
+    check_marks(frame.marks)?;
+    check_aims(trip, frame)?;
+    Ok(moves)
 }

@@ -1,11 +1,9 @@
 -- Runs of moves, and what they are as a list: its moves one by one, its codes, its counts.
-use Rattle.std.specs.Prelude.{ℕ, zero, suc, ◌+◌, List, [], ◌∷◌, ◌++◌, map, replicate}
+use Rattle.std.specs.Prelude.{ℕ, ◌+◌, List, [], ◌∷◌, ◌++◌, map, replicate, Option, slice_get}
 use Rattle.array.specs.declared.moves.Way.{Way}
 use Rattle.array.specs.declared.moves.Move.{Move}
 use Rattle.array.specs.declared.moves.Move.TheVariants.{Swap, Electronic}
 use Rattle.runs.specs.declared.Run.{Run}
-use Rattle.runs.specs.declared.Found.{Found}
-use Rattle.runs.specs.declared.Found.TheVariants.{Step, Past}
 use Rattle.array.specs.Moves.{code_of}
 
 -- n moves one way, and n swaps
@@ -32,11 +30,9 @@ moves (r ∷ rs) = replicate r.times r.step ++ moves rs
 abbrev pub codes : List Run → List ℕ
 codes rs = map code_of (moves rs)
 
--- move k of a list, or that the list is shorter
-abbrev pub step_in : List Move → ℕ → Found
-step_in [] k = Past
-step_in (m ∷ ms) zero = Step m
-step_in (m ∷ ms) (suc k) = step_in ms k
+-- move k of a list, where it is as long
+abbrev pub step_in : List Move → ℕ → Option Move
+step_in ms k = slice_get ms k
 
 -- how many of n moves of a kind are electronic, and how many swaps
 abbrev pub electronic_in : Move → ℕ → ℕ

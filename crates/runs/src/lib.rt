@@ -3,63 +3,69 @@
 
 ghost use Rattle.std.specs.Prelude.{◌≡◌};
 ghost use Rattle.std.proofs.lemmas.List.Edits.{sets};
-ghost use Rattle.runs.specs.Runs.{no_runs, moves, codes as codes_of, step_in, electronic_in, swaps_in};
+ghost use Rattle.runs.specs.Runs.{along as along_of, swapping as swapping_of, no_runs, moves, codes as codes_of, step_in, electronic_in, swaps_in};
 
-use array::moves::{Move, code};
+use array::moves::{Move, Way};
 
 // The same move made several times.
-#[derive(Clone, Copy)]
+#[derive(Clone, Copy, Debug, PartialEq, Eq)]
 pub struct Run {
     pub step: Move,
     pub times: usize,
 }
 
-// Move k of a list, or that the list is shorter.
-#[derive(Clone, Copy)]
-pub enum Found {
-    Step(Move),
-    Past,
+impl Run {
+    // So many moves one way.
+    pub fn along(way: Way, times: usize) -> Run
+        ensures { result ≡ along_of way times }
+    {
+        Run {
+            step: Move::Electronic(way),
+            times,
+        }
+    }
+
+    // So many swaps.
+    pub fn swapping(times: usize) -> Run
+        ensures { result ≡ swapping_of times }
+    {
+        Run {
+            step: Move::Swap,
+            times,
+        }
+    }
 }
 
 // The list of an argument that is refused: no moves.
 pub fn no_runs() -> [Run; 9]
     ensures { result ≡ no_runs }
 {
-    let none = Run {
-        step: Move::Swap,
-        times: 0,
-    };
-    [none, none, none, none, none, none, none, none, none]
+    [Run::swapping(0); 9]
 }
 
-pub fn step_at(runs: [Run; 9], k: usize) -> Found
+// Move k of a list, where it is as long.
+pub fn step_at(runs: [Run; 9], k: usize) -> Option<Move>
     ensures { result ≡ step_in (moves runs) k }
 {
     let mut remaining = k;
-    let mut q: usize = 0;
-    while q < 9 {
-        let run = runs[q];
+    for run in &runs {
         if remaining < run.times {
-            let step = run.step;
-            return Found::Step(step);
+            return Some(run.step);
         }
         remaining -= run.times;
-        q += 1;
     }
-    Found::Past
+    None
 }
 
 // Writes the codes of the runs into a log from a place on, as far as the log goes; what is before and behind stays.
 pub fn write_codes(runs: [Run; 9], log: &mut [u8], from: usize)
     ensures { log.new ≡ sets log.old from (codes_of runs) }
 {
-    let mut at = from;
-    while at < log.len() {
-        let Found::Step(step) = step_at(runs, at - from) else {
+    for at in from..log.len() {
+        let Some(step) = step_at(runs, at - from) else {
             return;
         };
-        log[at] = code(step);
-        at += 1;
+        log[at] = u8::from(step);
     }
 }
 

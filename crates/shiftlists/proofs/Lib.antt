@@ -1,3 +1,2 @@
 pub mod Counts
-pub mod Signed
 pub mod Within

@@ -1,6 +1,6 @@
 -- When a shift is refused by its distance.
 use Rattle.std.specs.Prelude.{ℕ, not, ℤ}
-use Rattle.answers.specs.declared.Case.{Case}
+use Rattle.answers.specs.Answers.{Case}
 use Rattle.answers.specs.Answers.{case_of}
 use Rattle.shiftlists.specs.Shifts.{distance_of, within}
 

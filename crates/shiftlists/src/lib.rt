@@ -1,17 +1,17 @@
 // The move lists of the eight shifts.
 #![tactic(auto)]
 
-ghost use Rattle.std.specs.Prelude.{◌≡◌, ◌≤◌};
-ghost use Rattle.runs.specs.Runs.{along as along_of, swapping as swapping_of};
+ghost use Rattle.std.specs.Prelude.{◌≡◌, ◌≤◌, [], ◌∷◌};
+ghost use Rattle.answers.specs.Judged.{Judged};
 ghost use Rattle.shiftlists.specs.Cases.{distance_case};
-ghost use Rattle.shiftlists.specs.Shifts.{distance_of, within, modulo as modulo_of, is_nothing, circular_moves, forth_moves, back_moves, forth_way, swaps_of, shift_list, shift_runs};
+ghost use Rattle.shiftlists.specs.Shifts.{distance_of, within, modulo, is_nothing, circular_moves, forth_moves, back_moves, forth_way, swaps_of, shift_list, shift_runs};
 
-use answers::{Case, case_of};
-use array::moves::{Move, Way, opposite};
+use answers::Refusal;
+use array::moves::{Way, opposite};
 use runs::{Run, no_runs};
 
 // What a shift changes: the column or the row of a cell's place, or of its group.
-#[derive(Clone, Copy)]
+#[derive(Clone, Copy, Debug, PartialEq, Eq)]
 pub enum Axis {
     MeshRow,
     MeshColumn,
@@ -20,31 +20,35 @@ pub enum Axis {
 }
 
 // What becomes of a word that a shift takes over the edge.
-#[derive(Clone, Copy)]
+#[derive(Clone, Copy, Debug, PartialEq, Eq)]
 pub enum Edge {
     ZeroFill,
     Circular,
 }
 
 // How far a shift goes forth, or how far back.
-#[derive(Clone, Copy)]
+#[derive(Clone, Copy, Debug, PartialEq, Eq)]
 pub struct Distance {
     pub forth: usize,
     pub back: usize,
 }
 
-pub fn distance_of(k: i32) -> Distance
-    ensures { result ≡ distance_of k }
-{
-    if k < 0 {
-        return Distance {
-            forth: 0,
-            back: (0 - k as i64) as usize,
-        };
-    }
-    Distance {
-        forth: k as usize,
-        back: 0,
+impl From<i32> for Distance {
+    ghost from_gives = { λ k distance. distance ≡ distance_of k };
+
+    fn from(k: i32) -> Distance {
+        let far = k.unsigned_abs() as usize;
+        if k < 0 {
+            Distance {
+                forth: 0,
+                back: far,
+            }
+        } else {
+            Distance {
+                forth: far,
+                back: 0,
+            }
+        }
     }
 }
 
@@ -54,18 +58,25 @@ pub fn is_within(side: usize, k: Distance) -> bool
     k.forth < side && k.back < side
 }
 
-pub fn distance_case(side: usize, k: i32) -> Case
-    ensures { result ≡ distance_case side k }
+pub fn check_distance(side: usize, k: i32) -> Result<(), Refusal>
+    ensures { Judged (distance_case side k ∷ []) result }
 {
-    case_of(!is_within(side, distance_of(k)), 4, 0)
+    if is_within(side, Distance::from(k)) {
+        Ok(())
+    } else {
+        Err(Refusal::Argument)
+    }
 }
 
-fn modulo(side: usize, k: Distance) -> usize
-    requires { (k.back ≤ side) × (k.forth ≤ side) }
-    ensures value { result ≡ modulo_of side k }
-    ensures upper_bound { result ≤ side }
+// k modulo the side, of a k within the side.
+pub fn modulo(side: usize, k: Distance) -> usize
+    ensures { result ≡ modulo side k }
 {
-    if 0 < k.back { side - k.back } else { k.forth }
+    if 0 < k.back {
+        side.saturating_sub(k.back)
+    } else {
+        k.forth
+    }
 }
 
 fn is_nothing(k: Distance) -> bool
@@ -123,39 +134,21 @@ fn swaps_of(axis: Axis) -> usize
     }
 }
 
-fn along(way: Way, times: usize) -> Run
-    ensures { result ≡ along_of way times }
-{
-    Run {
-        step: Move::Electronic(way),
-        times: times,
-    }
-}
-
-fn swapping(times: usize) -> Run
-    ensures { result ≡ swapping_of times }
-{
-    Run {
-        step: Move::Swap,
-        times: times,
-    }
-}
-
 fn shift_list(axis: Axis, forth: usize, back: usize) -> [Run; 9]
     ensures { result ≡ shift_list axis forth back }
 {
     let way = forth_way(axis);
-    let light = swapping(swaps_of(axis));
-    let there = along(way, forth);
-    let home = along(opposite(way), back);
-    let none = swapping(0);
+    let light = Run::swapping(swaps_of(axis));
+    let there = Run::along(way, forth);
+    let home = Run::along(opposite(way), back);
+    let none = Run::swapping(0);
     [light, there, home, light, none, none, none, none, none]
 }
 
 pub fn shift_runs(side: usize, axis: Axis, edge: Edge, k: i32) -> [Run; 9]
     ensures { result ≡ shift_runs side axis edge k }
 {
-    let distance = distance_of(k);
+    let distance = Distance::from(k);
     if !is_within(side, distance) {
         return no_runs();
     }

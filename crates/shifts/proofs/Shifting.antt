@@ -25,6 +25,7 @@ use Rattle.lanes.specs.Machine.{State, Stage, from_before, from_after, ran, all,
 use Rattle.lanes.specs.declared.Joining.TheVariants.{Fill}
 use Rattle.lanes.specs.Runs.{running}
 use Rattle.lanes.specs.Stages.{position, filled}
+use Rattle.shifts.specs.declared.Shift.{Shift}
 use Rattle.shifts.specs.Programs.{Shifting, load_shift, forth, takes_back, back, shift, shifted_by}
 use Rattle.shifts.specs.Results.{came_from, word_from, shifted, shift_words}
 use Rattle.shifts.specs.Inside.{slide, takes, mesh_shift, shift_on}
@@ -73,8 +74,12 @@ module _ (s : ℕ) (σ : State ℕ) (k c d a b : ℕ) where
   slide-up : a < s → slide s Up k σ c d a b ≡ shifted_back s k (λ i. σ c d i b) a
   slide-up h = ap (λ (g : ℕ → ℕ). g a) (lines.up s k (running Up Fill 0 k).rule σ c d k b) ∙ line-back s (λ i. σ c d i b) k a h
 
+-- what a shift makes by the moves of its list
+abbrev pub shift_of : Edge → ℕ → Distance → Shift
+shift_of edge s k = record { edge = edge; forth = forth_moves edge s k; around = back_moves edge s k }
+
 abbrev shift_state : ℕ → Axis → Edge → Distance → State ℕ → State ℕ
-shift_state s axis edge k σ = shift_on s axis edge (forth_moves edge s k) (back_moves edge s k) σ
+shift_state s axis edge k σ = shift_on s axis (shift_of edge s k) σ
 
 -- a cell that takes what comes back has it from the first move back on
 taken : (n : ℕ) (t : Bool) (y y' x x' : ℕ) → x ≡ cond (ltb 0 n && t) y x' → cond t y' x ≡ cond (ltb 0 (suc n) && t) y' x'
@@ -117,21 +122,21 @@ module _ (s : ℕ) (w : Way) (edge : Edge) (k : Distance) (σ : State ℕ) where
       ∙ ap (ran s (plain (opposite w) (back_moves edge s k) (λ k c d a b own got. filled got)) n) y₁
 
   x₂ : (n c d a b : ℕ) → (ran s back_stage n σ₁ c d a b).x
-      ≡ cond (takes edge (forth_moves edge s k) n (position w a b)) (ran s back_stage n σ₁ c d a b).y (σ₁ c d a b).x
+      ≡ cond (takes (record { edge = edge; forth = forth_moves edge s k; around = n }) (position w a b)) (ran s back_stage n σ₁ c d a b).y (σ₁ c d a b).x
   unfolding back_stage
   x₂ zero c d a b = refl
   x₂ (suc n) c d a b = taken n (takes_back edge (forth_moves edge s k) (position w a b)) _ _ _ _ (x₂ n c d a b)
 
   -- the program inside the groups
-  mesh_lane : lane (λ o. o.x) (all s back_stage σ₁) ≡ mesh_shift s w edge (forth_moves edge s k) (back_moves edge s k) σ
+  mesh_lane : lane (λ o. o.x) (all s back_stage σ₁) ≡ mesh_shift s w (shift_of edge s k) σ
   unfolding back_stage
   mesh_lane = fun_ext (λ c. fun_ext (λ d. fun_ext (λ a. fun_ext (λ b.
       x₂ (back_moves edge s k) c d a b
-      ∙ ap₂ (cond (takes edge (forth_moves edge s k) (back_moves edge s k) (position w a b)))
+      ∙ ap₂ (cond (takes (shift_of edge s k) (position w a b)))
       (ap (λ (τ : State ℕ). τ c d a b) (y₂ (back_moves edge s k))) (ap (λ (τ : State ℕ). τ c d a b) x₁)))))
 
 pub shift-lane : (s : ℕ) (axis : Axis) (edge : Edge) (k : Distance) (σ : State ℕ)
-    → shifted_by s axis edge k σ ≡ shift_on s axis edge (forth_moves edge s k) (back_moves edge s k) σ
+    → shifted_by s axis edge k σ ≡ shift_on s axis (shift_of edge s k) σ
 unfolding σ₁ forth_stage back_stage
 shift-lane s MeshRow edge k σ = mesh_lane s Right edge k σ
 shift-lane s MeshColumn edge k σ = mesh_lane s Down edge k σ
@@ -154,7 +159,7 @@ module _ (s : ℕ) (f : ℕ → ℕ) (p : ℕ) (p_in : p < s) where
   modulo_in (negsuc n) h = rw (lt-ltb 0 (suc n) (omega arith)) (omega arith)
 
   abbrev line_shift : Edge → Distance → ℕ
-  line_shift edge k = cond (takes edge (forth_moves edge s k) (back_moves edge s k) p) (shifted_back s (back_moves edge s k) f p) (shifted_on (forth_moves edge s k) f p)
+  line_shift edge k = cond (takes (shift_of edge s k) p) (shifted_back s (back_moves edge s k) f p) (shifted_on (forth_moves edge s k) f p)
 
   line-shifted : (edge : Edge) (k : ℤ) → within s (distance_of k) ≡ true → line_shift edge (distance_of k) ≡ word_from f (came_from edge s (distance_of k) p)
   line-shifted ZeroFill (pos n) h = go (dec_lt p n)
@@ -184,15 +189,15 @@ module _ (s : ℕ) (f : ℕ → ℕ) (p : ℕ) (p_in : p < s) where
 
 -- each word goes where it is to go
 mesh_row : (s : ℕ) (edge : Edge) (k : ℤ) (σ : State ℕ) → within s (distance_of k) ≡ true → (c d a b : ℕ) → b < s
-    → mesh_shift s Right edge (forth_moves edge s (distance_of k)) (back_moves edge s (distance_of k)) σ c d a b ≡ word_from (σ c d a) (came_from edge s (distance_of k) b)
+    → mesh_shift s Right (shift_of edge s (distance_of k)) σ c d a b ≡ word_from (σ c d a) (came_from edge s (distance_of k) b)
 mesh_row s edge k σ h c d a b hb =
-    ap₂ (cond (takes edge (forth_moves edge s (distance_of k)) (back_moves edge s (distance_of k)) b)) (slide-left s σ (back_moves edge s (distance_of k)) c d a b hb) (slide-right s σ (forth_moves edge s (distance_of k)) c d a b)
+    ap₂ (cond (takes (shift_of edge s (distance_of k)) b)) (slide-left s σ (back_moves edge s (distance_of k)) c d a b hb) (slide-right s σ (forth_moves edge s (distance_of k)) c d a b)
     ∙ line-shifted s (σ c d a) b hb edge k h
 
 mesh_column : (s : ℕ) (edge : Edge) (k : ℤ) (σ : State ℕ) → within s (distance_of k) ≡ true → (c d a b : ℕ) → a < s
-    → mesh_shift s Down edge (forth_moves edge s (distance_of k)) (back_moves edge s (distance_of k)) σ c d a b ≡ word_from (λ i. σ c d i b) (came_from edge s (distance_of k) a)
+    → mesh_shift s Down (shift_of edge s (distance_of k)) σ c d a b ≡ word_from (λ i. σ c d i b) (came_from edge s (distance_of k) a)
 mesh_column s edge k σ h c d a b ha =
-    ap₂ (cond (takes edge (forth_moves edge s (distance_of k)) (back_moves edge s (distance_of k)) a)) (slide-up s σ (back_moves edge s (distance_of k)) c d a b ha) (slide-down s σ (forth_moves edge s (distance_of k)) c d a b)
+    ap₂ (cond (takes (shift_of edge s (distance_of k)) a)) (slide-up s σ (back_moves edge s (distance_of k)) c d a b ha) (slide-down s σ (forth_moves edge s (distance_of k)) c d a b)
     ∙ line-shifted s (λ i. σ c d i b) a ha edge k h
 
 shift_is : (s : ℕ) (axis : Axis) (edge : Edge) (k : ℤ) (σ : State ℕ) → within s (distance_of k) ≡ true → (c d a b : ℕ) → c < s → d < s → a < s → b < s

@@ -22,9 +22,6 @@ spotted_by s i g a b ha hb e =
     let p : place s i ≡ a * s + b = ap (place s) e ∙ place_of s g (a * s + b) (digits_lt ha hb) in
     record { row_is = sym (ap (row s) p ∙ digits_div a hb); column_is = sym (ap (column s) p ∙ digits_mod a hb) }
 
-pub spotted_start : {s : ℕ} → 1 ≤ s → Spotted s 0 (record { row = 0; column = 0 })
-spotted_start {s} h = spotted_by s 0 0 0 0 h h (omega arith)
-
 module _ {s i : ℕ} {x : Spot} (pos : 1 ≤ s) (z : Spotted s i x) where
   pub row_less : x.row < s
   row_less = rw z.row_is (row_in pos (place s i) (place_in pos i))

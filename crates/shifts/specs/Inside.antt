@@ -1,10 +1,9 @@
 -- What the parts of a shift do to its lanes. A reader of the public contract does not need it.
-use Rattle.std.specs.Prelude.{ℕ, ◌+◌, Bool, cond, ◌&&◌, List, get_or, ltb}
+use Rattle.std.specs.Prelude.{ℕ, ◌+◌, ◌≤◌, Bool, cond, ◌&&◌, List, get_or, ltb}
 use Rattle.array.specs.declared.moves.Way.{Way}
 use Rattle.array.specs.declared.moves.Way.TheVariants.{Right, Down}
 use Rattle.shiftlists.specs.declared.Axis.{Axis}
 use Rattle.shiftlists.specs.declared.Axis.TheVariants.{MeshRow, MeshColumn, GroupRow, GroupColumn}
-use Rattle.shiftlists.specs.declared.Edge.{Edge}
 use Rattle.array.specs.Cells.{place, row, column}
 use Rattle.array.specs.Moves.{opposite}
 use Rattle.lanes.specs.declared.Joining.TheVariants.{Fill}
@@ -12,7 +11,8 @@ use Rattle.lanes.specs.Machine.{State, all}
 use Rattle.lanes.specs.Stages.{position}
 use Rattle.sums.specs.Sums.{cellwise}
 use Rattle.lanes.specs.Runs.{running}
-use Rattle.lanes.specs.Inside.{Lane, swapped_state}
+use Rattle.lanes.specs.Inside.{swapped_state}
+use Rattle.shifts.specs.declared.Shift.{Shift}
 use Rattle.shifts.specs.declared.Spot.{Spot}
 use Rattle.shifts.specs.Programs.{takes_back}
 
@@ -20,20 +20,28 @@ use Rattle.shifts.specs.Programs.{takes_back}
 abbrev pub slide : ℕ → Way → ℕ → State ℕ → State ℕ
 slide s w n σ = all s (running w Fill 0 n) σ
 
--- whether a cell takes the word that came n moves back, and not the one that came m moves forth
-abbrev pub takes : Edge → ℕ → ℕ → ℕ → Bool
-takes edge m n p = ltb 0 n && takes_back edge m p
+-- whether a cell at position p takes the word that came back, and not the one that came forth
+abbrev pub takes : Shift → ℕ → Bool
+takes x p = ltb 0 x.around && takes_back x.edge x.forth p
 
--- a shift inside the groups
-abbrev pub mesh_shift : ℕ → Way → Edge → ℕ → ℕ → State ℕ → State ℕ
-mesh_shift s w edge m n σ c d a b = cond (takes edge m n (position w a b)) (slide s (opposite w) n σ c d a b) (slide s w m σ c d a b)
+-- a shift inside the groups, and one between swaps
+abbrev pub mesh_shift : ℕ → Way → Shift → State ℕ → State ℕ
+mesh_shift s w x σ c d a b = cond (takes x (position w a b)) (slide s (opposite w) x.around σ c d a b) (slide s w x.forth σ c d a b)
 
--- by itself, or between swaps
-abbrev pub shift_on : ℕ → Axis → Edge → ℕ → ℕ → State ℕ → State ℕ
-shift_on s MeshRow edge m n σ c d a b = mesh_shift s Right edge m n σ c d a b
-shift_on s MeshColumn edge m n σ c d a b = mesh_shift s Down edge m n σ c d a b
-shift_on s GroupRow edge m n σ c d a b = swapped_state (mesh_shift s Right edge m n (swapped_state σ)) c d a b
-shift_on s GroupColumn edge m n σ c d a b = swapped_state (mesh_shift s Down edge m n (swapped_state σ)) c d a b
+abbrev pub group_shift : ℕ → Way → Shift → State ℕ → State ℕ
+group_shift s w x σ = swapped_state (mesh_shift s w x (swapped_state σ))
+
+abbrev pub shift_on : ℕ → Axis → Shift → State ℕ → State ℕ
+shift_on s MeshRow x = mesh_shift s Right x
+shift_on s MeshColumn x = mesh_shift s Down x
+shift_on s GroupRow x = group_shift s Right x
+shift_on s GroupColumn x = group_shift s Down x
+
+-- no word goes further than a line is long
+pub record Fits (s : ℕ) (x : Shift) : Type 0 where
+  pub least : 1 ≤ s
+  pub forth : x.forth ≤ s
+  pub around : x.around ≤ s
 
 -- the spot of the next cell
 abbrev pub next_spot : ℕ → Spot → Spot
@@ -42,10 +50,9 @@ next_spot s x =
     (cond (ltb (x.row + 1) s) (record { row = x.row + 1; column = 0 }) (record { row = 0; column = 0 }))
 
 -- l, with the words of m in the cells that take them
-abbrev pub chosen : ℕ → Way → Edge → ℕ → ℕ → List ℕ → List ℕ → List ℕ
-chosen s w edge forth around l m =
-    cellwise (λ i own. cond (takes edge forth around (position w (row s (place s i)) (column s (place s i)))) (get_or m i 0) own) l
+abbrev pub chosen : ℕ → Way → Shift → List ℕ → List ℕ → List ℕ
+chosen s w x l m = cellwise (λ i own. cond (takes x (position w (row s (place s i)) (column s (place s i)))) (get_or m i 0) own) l
 
--- words become what f makes of them, whatever the other lane held
-pub record ShiftLanes (s : ℕ) (f : State ℕ → State ℕ) (l b l' : List ℕ) : Type 0 where
-  pub so : (σ τ : State ℕ) → Lane s l σ → Lane s b τ → Lane s l' (f σ)
+-- the same with those of m in the cells at a position below `forth`
+abbrev pub taken_below : ℕ → Way → ℕ → List ℕ → List ℕ → List ℕ
+taken_below s w forth l m = cellwise (λ i own. cond (ltb (position w (row s (place s i)) (column s (place s i))) forth) (get_or m i 0) own) l

@@ -8,7 +8,7 @@ use lib.Dec.{eqb}
 use Rattle.laws.proofs.Setting.{get_or_stored}
 use Rattle.slots.specs.declared.Rec.{Rec}
 use Rattle.slots.specs.declared.Cell.{Cell}
-use Rattle.slots.specs.Cells.{record_in, nothing, joined}
+use Rattle.slots.specs.Cells.{record_in}
 
 -- a choice of records is a record of choices
 cond_rec : (b : Bool) (x y : Rec) → cond b x y ≡ record { word = cond b x.word y.word; mark = cond b x.mark y.mark; aim = cond b x.aim y.aim }
@@ -31,8 +31,3 @@ pub rec_stored : (w m a : List ℕ) (i : ℕ) (x : Rec) (j : ℕ) → i < length
 rec_stored w m a i x j h k l =
     rec_ext (get_or_stored w i j x.word 0 h) (get_or_stored m i j x.mark 0 k) (get_or_stored a i j x.aim 0 l)
     ∙ sym (cond_rec (eqb j i) x (record_in w m a j))
-
--- nothing put in leaves a cell as it is
-pub joined-none : (c : Cell) → joined c nothing ≡ c
-unfolding joined
-joined-none c = refl

@@ -1,11 +1,11 @@
 // What a cell holds: a record, and a second one in the spare slot.
 #![tactic(auto)]
 
-ghost use Rattle.std.specs.Prelude.{◌≡◌, true};
-ghost use Rattle.slots.specs.Cells.{nothing as nothing_of, empty as empty_of, alone as alone_of, joined as joined_of};
+ghost use Rattle.std.specs.Prelude.{◌≡◌};
+ghost use Rattle.slots.specs.Cells.{empty as empty_of, alone as alone_of, joined as joined_of};
 
 // A record: its word, its mark (1, or 0 where there is none) and its aim.
-#[derive(Clone, Copy)]
+#[derive(Clone, Copy, Debug, PartialEq, Eq)]
 pub struct Rec {
     pub word: u32,
     pub mark: u8,
@@ -13,30 +13,25 @@ pub struct Rec {
 }
 
 // A cell: its record, and a second one.
-#[derive(Clone, Copy)]
+#[derive(Clone, Copy, Debug, PartialEq, Eq)]
 pub struct Cell {
     pub front: Rec,
     pub spare: Rec,
 }
 
-fn nothing() -> Rec
-    ensures { result ≡ nothing_of }
-{
-    Rec {
-        word: 0,
-        mark: 0,
-        aim: 0,
-    }
-}
+const NOTHING: Rec = Rec {
+    word: 0,
+    mark: 0,
+    aim: 0,
+};
 
 // A cell with one record.
 fn alone(x: Rec) -> Cell
     ensures { result ≡ alone_of x }
 {
-    let none = nothing();
     Cell {
         front: x,
-        spare: none,
+        spare: NOTHING,
     }
 }
 
@@ -44,10 +39,11 @@ fn alone(x: Rec) -> Cell
 pub fn empty() -> Cell
     ensures { result ≡ empty_of }
 {
-    alone(nothing())
+    alone(NOTHING)
 }
 
 // A cell with a record put in: of two the one with the smaller aim is in front.
+#[tactic(auto, unfolding(crate::specs::Cells::joined))]
 pub fn joined(c: Cell, x: Rec) -> Cell
     ensures { result ≡ joined_of c x }
 {
@@ -64,8 +60,5 @@ pub fn joined(c: Cell, x: Rec) -> Cell
             spare: front,
         };
     }
-    Cell {
-        front: front,
-        spare: x,
-    }
+    Cell { front, spare: x }
 }

@@ -1,17 +1,15 @@
 -- What is known where a group's stretch is not refused: it is inside the lane.
 use Prim.Native.Nat.{ℕ, ◌+◌, ◌*◌, ◌≤◌, ◌<◌}
-use mathlib.Core.Path.{◌≡◌, refl, sym, ap, ◌∙◌}
-use mathlib.Core.List.{List, []}
+use mathlib.Core.Path.{◌≡◌, refl}
 use native.Mathlib.Nat.{suc-mul, mul-le-mul_right}
-use lib.ListN.{length, take, drop}
-use borrow.Author.Tests.{not-false, ltb-true, eq-eqb, ne_eqb}
+use borrow.Author.Tests.{not-false, ltb-true}
 use Rattle.answers.specs.declared.Answer.{Answer}
-use Rattle.array.specs.Cells.{groups, cells, cell}
+use Rattle.array.specs.Cells.{groups, cells}
 use Rattle.runs.specs.Runs.{no_runs}
 use Rattle.answers.specs.Answers.{accepted_by}
 use Rattle.array.proofs.Board.{Side, side_known}
 use Rattle.answers.proofs.Verdicts.{none_refuses, side_built, lane_whole}
-use Rattle.stretches.specs.Stretches.{group_cases, group_answer, group_words}
+use Rattle.stretches.specs.Stretches.{group_cases, group_answer}
 
 pub record GroupRoom (s g n : ℕ) : Type 0 where
   pub side : Side s
@@ -31,11 +29,3 @@ pub group_inside : (s g n : ℕ) {r : Answer} → r ≡ group_answer s g n → r
 group_inside s g n e h =
     let z = group_room s g n e h in
     rw (z.whole, ← suc-mul) (mul-le-mul_right (groups s) z.inside)
-
--- what is handed back, refused and accepted
-module _ (s g : ℕ) (words : List ℕ) {r : Answer} (e : r ≡ group_answer s g (length words)) where
-  pub nothing-back : (r.number ≡ 0 → ⊥) → [] ≡ group_words s g words
-  nothing-back h = sym (rw (ne_eqb (group_answer s g (length words)).number 0 (λ z. h (ap (λ (x : Answer). x.number) e ∙ z))))
-
-  pub stretch_back : r.number ≡ 0 → take (groups s) (drop (cell s g 0) words) ≡ group_words s g words
-  stretch_back h = sym (rw (eq-eqb (group_answer s g (length words)).number 0 (sym (ap (λ (x : Answer). x.number) e) ∙ h)))

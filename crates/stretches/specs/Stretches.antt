@@ -1,7 +1,7 @@
 -- The stretch of words of a group, and when it is refused.
 use Rattle.std.specs.Prelude.{ℕ, cond, not, List, [], ◌∷◌, ltb, eqb, length, take, drop}
 use Rattle.answers.specs.declared.Answer.{Answer}
-use Rattle.answers.specs.declared.Case.{Case}
+use Rattle.answers.specs.Answers.{Case}
 use Rattle.array.specs.Cells.{groups, cell}
 use Rattle.runs.specs.Runs.{no_runs}
 use Rattle.answers.specs.Answers.{accepted_by, case_of, verdict, side_case, lane_case}

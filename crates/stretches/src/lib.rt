@@ -1,12 +1,13 @@
 // A group's own stretch of a lane of words, and the answer of who asks for it.
 #![tactic(auto)]
 
-ghost use Rattle.std.specs.Prelude.{◌≡◌, ltb, length};
-ghost use Rattle.laws.specs.Lent.{old};
+ghost use Rattle.std.specs.Prelude.{◌≡◌, ltb, length, [], ◌∷◌};
 ghost use Rattle.array.specs.Cells.{groups};
+ghost use Rattle.answers.specs.Answers.{answer_of};
+ghost use Rattle.answers.specs.Judged.{Judged};
 ghost use Rattle.stretches.specs.Stretches.{group_case, group_answer, group_words};
 
-use answers::{Answer, Case, accepted_by, case_of, refusing, refusing_lane};
+use answers::{Moves, Refusal, check_lane, check_side, moves_of};
 use runs::no_runs;
 
 // There are side × side groups; a side above 2^32 − 1 has more than there are numbers.
@@ -19,38 +20,40 @@ fn is_group(side: usize, group: usize) -> bool
     group < side * side
 }
 
-fn group_case(side: usize, group: usize) -> Case
-    ensures { result ≡ group_case side group }
+fn check_group(side: usize, group: usize) -> Result<(), Refusal>
+    ensures { Judged (group_case side group ∷ []) result }
 {
-    case_of(!is_group(side, group), 4, 0)
+    if is_group(side, group) {
+        Ok(())
+    } else {
+        Err(Refusal::Argument)
+    }
 }
 
-fn judge_group(side: usize, group: usize, length: usize) -> Answer
-    ensures { result ≡ group_answer side group length }
+fn judge_group(side: usize, group: usize, length: usize) -> Result<Moves, Refusal>
+    ensures { answer_of result ≡ group_answer side group length }
 {
-    refusing_lane(
-        side,
-        length,
-        refusing(group_case(side, group), accepted_by(no_runs())),
-    )
+    check_side(side)?;
+    check_lane(side, length)?;
+    check_group(side, group)?;
+    Ok(moves_of(no_runs()))
 }
 
 // The caller's own stretch of words of a group, or an empty one where that is refused.
 pub fn group_words(side: usize, group: usize, words: &[u32]) -> &[u32]
     ensures { result.now ≡ group_words side group words.now }
 {
-    let answer = judge_group(side, group, words.len());
-    if answer.number != 0 {
+    let Ok(_) = judge_group(side, group, words.len()) else {
         return &words[..0];
-    }
+    };
     let n = side * side;
     let start = group * n;
     &words[start..start + n]
 }
 
-// The number and the place of the same.
-pub fn group_words_answer(side: usize, group: usize, words: &[u32]) -> Answer
-    ensures { result ≡ group_answer side group (length words.now) }
+// The answer of the same.
+pub fn group_words_answer(side: usize, group: usize, words: &[u32]) -> Result<Moves, Refusal>
+    ensures { answer_of result ≡ group_answer side group (length words.now) }
 {
     judge_group(side, group, words.len())
 }

@@ -1,2 +1,2 @@
 pub mod Balancing
-pub mod Renewing
+pub mod Stepping

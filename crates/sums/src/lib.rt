@@ -1,66 +1,51 @@
-// Words added and taken off modulo 2^32, and a lane combined so with another, cell by cell.
+// A lane of words to which another is added, or from which it is taken off, cell by cell and modulo 2^32.
 #![tactic(auto)]
 
-ghost use Rattle.std.specs.Prelude.{◌≡◌};
-ghost use Rattle.sums.specs.Sums.{plus as plus_of, combine_of, combined_words};
+ghost use Rattle.std.specs.Prelude.{◌≡◌, ℕ, ◌<◌, length, slice_index};
+ghost use Rattle.sums.specs.Sums.{plus, minus, combined_words};
 
-// A word takes another's place, is added, or is taken off, modulo 2^32.
-#[derive(Clone, Copy)]
-pub enum Combining {
-    Take,
-    Plus,
-    Minus,
-}
-
-// A sum, modulo 2^32.
-pub fn plus(own: u32, x: u32) -> u32
-    ensures { result ≡ plus_of own x }
-{
-    std::num::wrapping_add_u32(own, x)
-}
-
-fn combined(how: Combining, own: u32, x: u32) -> u32
-    ensures { result ≡ combine_of how own x }
-{
-    match how {
-        Combining::Take => x,
-        Combining::Plus => plus(own, x),
-        Combining::Minus => std::num::wrapping_sub_u32(own, x),
-    }
-}
-
-// Each word becomes what it and the other lane's word in its cell make.
-pub fn combine(how: Combining, to: &mut [u32], from: &[u32])
-    ensures { to.new ≡ combined_words how to.old from.now }
+// Each word becomes what the step makes of it and of the other lane's word in its cell.
+fn combine<F: Fn(u32, u32) -> u32>(to: &mut [u32], from: &[u32], step: F)
+    requires { (own : ℕ) (x : ℕ) → F.pre step own x }
+    ensures other { ¬ (length to.old ≡ length from.now) → to.new ≡ to.old }
+    ensures each { length to.old ≡ length from.now → (i : ℕ) → i < length to.old → F.post step (slice_index to.old i) (slice_index from.now i) (slice_index to.new i) }
 {
     if to.len() != from.len() {
         return;
     }
-    let mut i = 0;
-    while i < to.len() {
-        let v = combined(how, to[i], from[i]);
-        to[i] = v;
-        i += 1;
+    for i in 0..to.len() {
+        to[i] = step(to[i], from[i]);
     }
 }
 
-// A lane's words are added and another's taken off, in one pass where both are as long; else what combine would leave.
+// The other lane is added.
+pub fn add(to: &mut [u32], from: &[u32])
+    ensures { to.new ≡ combined_words plus to.old from.now }
+{
+    combine(to, from, |own, x| own.wrapping_add(x));
+}
+
+// It is taken off.
+pub fn subtract(to: &mut [u32], from: &[u32])
+    ensures { to.new ≡ combined_words minus to.old from.now }
+{
+    combine(to, from, |own, x| own.wrapping_sub(x));
+}
+
+// One lane is added and another taken off, in one pass where both are as long; else what add and subtract would leave.
 pub fn balance(to: &mut [u32], more: &[u32], less: &[u32])
-    ensures { to.new ≡ combined_words Combining.Minus (combined_words Combining.Plus to.old more.now) less.now }
+    ensures { to.new ≡ combined_words minus (combined_words plus to.old more.now) less.now }
 {
     let n = to.len();
     if n != more.len() {
-        combine(Combining::Minus, to, less);
+        subtract(to, less);
         return;
     }
     if n != less.len() {
-        combine(Combining::Plus, to, more);
+        add(to, more);
         return;
     }
-    let mut i = 0;
-    while i < n {
-        let v = combined(Combining::Minus, plus(to[i], more[i]), less[i]);
-        to[i] = v;
-        i += 1;
+    for i in 0..n {
+        to[i] = to[i].wrapping_add(more[i]).wrapping_sub(less[i]);
     }
 }

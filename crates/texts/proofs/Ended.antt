@@ -8,7 +8,7 @@ use native.Mathlib.Numerals.{add-one}
 use lib.ListN.{length, take, drop, length-drop}
 use lib.Seq.{drop-drop}
 use lib.Dec.{eqb}
-use Rattle.texts.specs.Lines.{bytes_before, ended, unended, with_byte, lines_of}
+use Rattle.texts.specs.Lines.{bytes_before, Parted, ended, unended, with_byte, lines_of}
 use Rattle.texts.specs.Bytes.{lf}
 use Rattle.texts.proofs.Reading.{rest}
 
@@ -20,12 +20,16 @@ ended_cons : (b : ℕ) (s : List ℕ) (t : Bool) → eqb b lf ≡ t → Ended s 
 unfolding lines_of bytes_before with_byte
 ended_cons b s true e ih h = rw e
 ended_cons b s false e ih h =
-    let h' : suc (bytes_before lf s) < suc (length s) = rw e at h in
-    rw (e, ih (omega arith))
+    let one : 1 + bytes_before lf s ≡ suc (bytes_before lf s) = omega arith in
+    let h' : 1 + bytes_before lf s < suc (length s) = rw e at h in
+    rw (e, one, ih (omega arith))
 
 pub lines_ended : (s : List ℕ) → Ended s
 lines_ended [] h = absurd (omega arith)
 lines_ended (b ∷ s) h = ended_cons b s (eqb b lf) refl (lines_ended s) h
+
+pub lines_parted : (s front back : List ℕ) → Parted lf s front back → lines_of s ≡ ended front ∷ lines_of back
+lines_parted s front back p = rw (p.front_is, p.back_is) (lines_ended s p.found)
 
 -- a text that has bytes and no LF
 abbrev Unended : List ℕ → Type 0
@@ -36,7 +40,7 @@ unfolding lines_of bytes_before with_byte
 unended_cons b s true e ih h p = absurd (omega (arith, rw e at h))
 unended_cons b [] false e ih h p = rw e
 unended_cons b (x ∷ s) false e ih h p =
-    let h' : suc (bytes_before lf (x ∷ s)) ≡ suc (suc (length s)) = rw e at h in
+    let h' : 1 + bytes_before lf (x ∷ s) ≡ suc (suc (length s)) = rw e at h in
     rw (e, ih (omega arith) (omega arith))
 
 pub lines_unended : (s : List ℕ) → Unended s

@@ -1,108 +1,62 @@
--- The fields of a line: the first, and those of what follows. Then what two and four of them write.
-use mathlib.Core.Path.{◌≡◌, refl, sym, ◌∙◌}
-use mathlib.Core.List.{List, [], ◌∷◌}
-use mathlib.Core.Bool.{Bool, true, false, cond}
-use Prim.Native.Nat.{ℕ, suc, ◌+◌, ◌-◌, ◌≤◌, ◌<◌}
-use native.Mathlib.Omega.{arith}
-use native.Mathlib.Numerals.{add-one}
-use lib.ListN.{length, take, drop}
-use lib.Seq.{take_all}
-use lib.Dec.{eqb}
-use Rattle.texts.specs.Bytes.{tab}
-use Rattle.texts.specs.Lines.{bytes_before, with_first, fields_of}
-use Rattle.texts.specs.Numbers.{number_of, two, four, numbers_of, numbers_in}
-use Rattle.texts.specs.declared.read.Number.{Number}
-use Rattle.texts.specs.declared.read.Number.TheVariants.{Of}
+-- The fields of a line, as `split` gives them one after the other, and none where there are no more.
+use Rattle.std.proofs.Common.{◌≡◌, ℕ, List, [], ◌∷◌, Option, Some, None, refl}
+use Rattle.std.proofs.lemmas.Iterator.{YieldsList}
+use Rattle.texts.specs.Lines.{fields_of}
+use Rattle.texts.specs.Numbers.{number_of, two, four, numbers_in}
 use Rattle.texts.specs.declared.read.Numbers.{Numbers}
-use Rattle.texts.specs.declared.read.Numbers.TheVariants.{Two, Four, Other}
-use Rattle.texts.proofs.Reading.{rest}
 
--- a line without a tab has one field
-abbrev Whole : List ℕ → Type 0
-Whole s = bytes_before tab s ≡ length s → fields_of s ≡ s ∷ []
+module _ {S A : Type 0} (steps : S → Option A → S → Type 0) (text : A → List ℕ) where
+  -- a field that is taken is the first, and the others are left
+  pub record Others (x : A) (t : S) (fs : List (List ℕ)) : Type 0 where
+    pub others : List (List ℕ)
+    pub are : fs ≡ text x ∷ others
+    pub left : YieldsList steps text t others
 
-whole_cons : (b : ℕ) (s : List ℕ) (t : Bool) → eqb b tab ≡ t → Whole s → Whole (b ∷ s)
-unfolding fields_of bytes_before with_first
-whole_cons b s true e ih h = absurd (omega (arith, rw e at h))
-whole_cons b s false e ih h =
-    let h' : suc (bytes_before tab s) ≡ suc (length s) = rw e at h in
-    rw (e, ih (omega arith))
+module _ {S A : Type 0} {steps : S → Option A → S → Type 0} {text : A → List ℕ} where
+  others_of : {s : S} (fs : List (List ℕ)) → YieldsList steps text s fs → (x : A) (t : S) → steps s (Some x) t → Others steps text x t fs
+  others_of [] y x t h = absurd (y.runs x t h)
+  others_of (f ∷ fs) y x t h = let z = y.runs.1 x t h in record { others = fs; are = rw z.0; left = record { runs = z.1 } }
 
-pub fields_whole : (s : List ℕ) → Whole s
-unfolding fields_of
-fields_whole [] h = refl
-fields_whole (b ∷ s) h = whole_cons b s (eqb b tab) refl (fields_whole s) h
+  none_of : {s : S} (fs : List (List ℕ)) → YieldsList steps text s fs → (t : S) → steps s None t → fs ≡ []
+  none_of [] y t h = refl
+  none_of (f ∷ fs) y t h = absurd (y.runs.0 t h)
 
--- a line with a tab: what stands before it, and the fields of what stands behind it
-abbrev Parted : List ℕ → Type 0
-Parted s = bytes_before tab s < length s → fields_of s ≡ take (bytes_before tab s) s ∷ fields_of (drop (suc (bytes_before tab s)) s)
+module _ {S A : Type 0} {steps : S → Option A → S → Type 0} {text : A → List ℕ} (line : List ℕ) {s₀ : S} (y : YieldsList steps text s₀ (fields_of line))
+    (x₁ : A) (s₁ : S) (h₁ : steps s₀ (Some x₁) s₁) where
+  one : Others steps text x₁ s₁ (fields_of line)
+  one = others_of (fields_of line) y x₁ s₁ h₁
 
-parted_cons : (b : ℕ) (s : List ℕ) (t : Bool) → eqb b tab ≡ t → Parted s → Parted (b ∷ s)
-unfolding fields_of bytes_before with_first
-parted_cons b s true e ih h = rw e
-parted_cons b s false e ih h =
-    let h' : suc (bytes_before tab s) < suc (length s) = rw e at h in
-    rw (e, ih (omega arith))
-
-pub fields_parted : (s : List ℕ) → Parted s
-fields_parted [] h = absurd (omega arith)
-fields_parted (b ∷ s) h = parted_cons b s (eqb b tab) refl (fields_parted s) h
-
--- The fields as the code parts them: the first tab of s is at `at`, and `&s[at + 1..]` stands behind it.
-abbrev behind : ℕ → List ℕ → List ℕ
-behind at s = take (length s - (at + 1)) (drop (at + 1) s)
-
-module _ (s : List ℕ) (at : ℕ) (tab_at : at ≡ bytes_before tab s) where
-  last_field : at ≡ length s → fields_of s ≡ take at s ∷ []
-  last_field e = rw (take_all at s (omega arith)) (fields_whole s (sym tab_at ∙ e))
-
-  first_field : at ≤ length s → (at ≡ length s → ⊥) → fields_of s ≡ take at s ∷ fields_of (behind at s)
-  first_field h n = rw (rest, add-one, tab_at) (fields_parted s (omega arith))
-
--- `two_of` and `four_of`
-pub two-both : (a b : Number) (x y : ℕ) → a ≡ Of x → b ≡ Of y → Two x y ≡ two a b
-two-both a b x y p q = rw (p, q)
-
-pub four-all : (a b c d : Number) (x y z v : ℕ) → a ≡ Of x → b ≡ Of y → c ≡ Of z → d ≡ Of v → Four x y z v ≡ four a b c d
-four-all a b c d x y z v p q r t = rw (p, q, r, t)
-
--- a line has at least one field, so four before it make five
-five : (f g h i s : List ℕ) → Other ≡ numbers_of (f ∷ g ∷ h ∷ i ∷ fields_of s)
-unfolding fields_of with_first
-five f g h i [] = refl
-five f g h i (b ∷ s) = go (eqb b tab) (fields_of s)
-  where
-    go : (t : Bool) (fs : List (List ℕ)) → Other ≡ numbers_of (f ∷ g ∷ h ∷ i ∷ cond t ([] ∷ fs) (with_first b fs))
-    go true fs = refl
-    go false [] = refl
-    go false (x ∷ fs) = refl
-
--- `numbers_behind`: a line whose first two fields are f and g, and that goes on with s
-module _ (f g s : List ℕ) (at : ℕ) (tab_at : at ≡ bytes_before tab s) where
-  pub behind_one : at ≡ length s → Other ≡ numbers_of (f ∷ g ∷ fields_of s)
-  behind_one e = rw (last_field s at tab_at e)
-
-  module _ (h : at ≤ length s) (n : at ≡ length s → ⊥) (end : ℕ) (tab_end : end ≡ bytes_before tab (behind at s)) where
-    pub behind-two : end ≡ length (behind at s) → (a b c d : Number) → a ≡ number_of f → b ≡ number_of g
-        → c ≡ number_of (take at s) → d ≡ number_of (take end (behind at s)) → (r : Numbers) → r ≡ four a b c d → r ≡ numbers_of (f ∷ g ∷ fields_of s)
-    behind-two e a b c d p q u v r o = rw (first_field s at tab_at h n, last_field (behind at s) end tab_end e, ← p, ← q, ← u, ← v) o
-
-    pub behind_more : end ≤ length (behind at s) → (end ≡ length (behind at s) → ⊥) → Other ≡ numbers_of (f ∷ g ∷ fields_of s)
-    behind_more k m = rw (first_field s at tab_at h n, first_field (behind at s) end tab_end k m) (five f g _ _ _)
-
--- `numbers_in`
-module _ (s : List ℕ) (at : ℕ) (tab_at : at ≡ bytes_before tab s) where
-  pub in_one : at ≡ length s → Other ≡ numbers_in s
+  pub in_one : (t : S) → steps s₁ None t → None ≡ numbers_in line
   unfolding numbers_in
-  in_one e = rw (last_field s at tab_at e)
+  in_one t h = rw (one.are, none_of one.others one.left t h)
 
-  module _ (h : at ≤ length s) (n : at ≡ length s → ⊥) (end : ℕ) (tab_end : end ≡ bytes_before tab (behind at s)) where
-    pub in_two : end ≡ length (behind at s) → (a b : Number) → a ≡ number_of (take at s) → b ≡ number_of (take end (behind at s))
-        → (r : Numbers) → r ≡ two a b → r ≡ numbers_in s
-    unfolding numbers_in
-    in_two e a b p q r o = rw (first_field s at tab_at h n, last_field (behind at s) end tab_end e, ← p, ← q) o
+  module _ (x₂ : A) (s₂ : S) (h₂ : steps s₁ (Some x₂) s₂) where
+    second : Others steps text x₂ s₂ one.others
+    second = others_of one.others one.left x₂ s₂ h₂
 
-    pub in_more : end ≤ length (behind at s) → (end ≡ length (behind at s) → ⊥)
-        → (r : Numbers) → r ≡ numbers_of (take at s ∷ take end (behind at s) ∷ fields_of (behind end (behind at s))) → r ≡ numbers_in s
+    pub in_two : (t : S) → steps s₂ None t → (r : Option Numbers) → r ≡ two (number_of (text x₁)) (number_of (text x₂)) → r ≡ numbers_in line
     unfolding numbers_in
-    in_more k m r o = rw (first_field s at tab_at h n, first_field (behind at s) end tab_end k m) o
+    in_two t h r e = rw (one.are, second.are, none_of second.others second.left t h) e
+
+    module _ (x₃ : A) (s₃ : S) (h₃ : steps s₂ (Some x₃) s₃) where
+      third : Others steps text x₃ s₃ second.others
+      third = others_of second.others second.left x₃ s₃ h₃
+
+      pub in_three : (t : S) → steps s₃ None t → None ≡ numbers_in line
+      unfolding numbers_in
+      in_three t h = rw (one.are, second.are, third.are, none_of third.others third.left t h)
+
+      module _ (x₄ : A) (s₄ : S) (h₄ : steps s₃ (Some x₄) s₄) where
+        fourth : Others steps text x₄ s₄ third.others
+        fourth = others_of third.others third.left x₄ s₄ h₄
+
+        pub in_four : (t : S) → steps s₄ None t → (r : Option Numbers)
+            → r ≡ four (number_of (text x₁)) (number_of (text x₂)) (number_of (text x₃)) (number_of (text x₄)) → r ≡ numbers_in line
+        unfolding numbers_in
+        in_four t h r e = rw (one.are, second.are, third.are, fourth.are, none_of fourth.others fourth.left t h) e
+
+        pub in_five : (x₅ : A) (t : S) → steps s₄ (Some x₅) t → None ≡ numbers_in line
+        unfolding numbers_in
+        in_five x₅ t h =
+            let fifth = others_of fourth.others fourth.left x₅ t h in
+            rw (one.are, second.are, third.are, fourth.are, fifth.are)

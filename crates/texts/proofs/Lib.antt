@@ -1,3 +1,3 @@
 pub mod Reading
-pub mod Ended
 pub mod Fields
+pub mod Ended

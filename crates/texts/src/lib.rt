@@ -1,4 +1,5 @@
 // Texts of lines, fields and numbers, read from lent slices.
 #![tactic(auto)]
 
+pub mod input;
 pub mod read;

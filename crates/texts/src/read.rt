@@ -1,22 +1,13 @@
-// Reading: where a byte stands, whether two texts are the same, and what numbers a field and a line write.
-ghost use Rattle.std.specs.Prelude.{◌≡◌, ◌∷◌, ◌≤◌, length};
-ghost use Rattle.texts.specs.Bytes.{same as same_bytes};
-ghost use Rattle.texts.specs.Lines.{bytes_before, fields_of};
-ghost use Rattle.texts.specs.Numbers.{digits_from, number_of, two, four, numbers_of, numbers_in};
-
-// What a field is as a number.
-#[derive(Clone, Copy)]
-pub enum Number {
-    Of(u32),
-    Not,
-}
+// Reading: where a byte stands, and what numbers a field and a line write.
+ghost use Rattle.std.specs.Prelude.{◌≡◌, ◌≤◌, length, MatchOption};
+ghost use Rattle.texts.specs.Lines.{bytes_before, Parted};
+ghost use Rattle.texts.specs.Numbers.{with_digit, digits_from, number_of, two, four, numbers_in};
 
 // What the fields of a line write: two numbers, or four.
-#[derive(Clone, Copy)]
+#[derive(Clone, Copy, Debug, PartialEq, Eq)]
 pub enum Numbers {
     Two(u32, u32),
     Four(u32, u32, u32, u32),
-    Other,
 }
 
 // How many bytes stand before the first b: all of them where there is none.
@@ -24,140 +15,79 @@ pub fn bytes_before(s: &[u8], b: u8) -> usize
     ensures value { result ≡ bytes_before b s.now }
     ensures upper_bound { result ≤ length s.now }
 {
-    let mut i = 0;
-    while i < s.len() {
-        if s[i] == b {
-            return i;
-        }
-        i += 1;
-    }
-    i
+    s.iter().position(|&x| x == b).unwrap_or(s.len())
 }
 
-// Whether a and b hold the same bytes.
-pub fn same(a: &[u8], b: &[u8]) -> bool
-    ensures { result ≡ same_bytes a.now b.now }
+// What stands before the first b, and behind it; none where there is no b.
+pub fn split_once(s: &[u8], b: u8) -> Option<(&[u8], &[u8])>
+    ensures { MatchOption result (bytes_before b s.now ≡ length s.now) (λ p. Parted b s.now p.0.now p.1.now) }
 {
-    if a.len() != b.len() {
-        return false;
+    let at = bytes_before(s, b);
+    if at == s.len() {
+        return None;
     }
-    let mut i = 0;
-    while i < a.len() {
-        if a[i] != b[i] {
-            return false;
-        }
-        i += 1;
-    }
-    true
+    Some((&s[..at], &s[at + 1..]))
 }
 
 // The number that a field writes.
-pub fn number_of(field: &[u8]) -> Number
+pub fn number_of(field: &[u8]) -> Option<u32>
     ensures { result ≡ number_of field.now }
 {
-    if field.len() == 0 {
-        return Number::Not;
-    }
-    if field[0] == b'0' {
-        if field.len() > 1 {
-            return Number::Not;
-        }
+    let first = *field.first()?;
+    if first == b'0' && field.len() > 1 {
+        return None;
     }
     digits_from(field)
 }
 
+// The number that one digit more makes of n.
+fn with_digit(n: u32, b: u8) -> Option<u32>
+    ensures { result ≡ with_digit n b }
+{
+    if !b.is_ascii_digit() {
+        return None;
+    }
+    n.checked_mul(10)?.checked_add(u32::from(b - b'0'))
+}
+
 // The number that digits write, read from the left.
-fn digits_from(field: &[u8]) -> Number
+fn digits_from(field: &[u8]) -> Option<u32>
     ensures { result ≡ digits_from 0 field.now }
 {
-    let mut n: u64 = 0;
-    let mut i = 0;
-    while i < field.len() {
-        let b = field[i];
-        if b < b'0' {
-            return Number::Not;
-        }
-        if b'9' < b {
-            return Number::Not;
-        }
-        n = n * 10 + (b - b'0') as u64;
-        if n > 4294967295 {
-            return Number::Not;
-        }
-        i += 1;
+    let mut n = 0;
+    for b in field {
+        n = with_digit(n, *b)?;
     }
-    Number::Of(n as u32)
+    Some(n)
 }
 
 // What two fields write.
-fn two_of(a: Number, b: Number) -> Numbers
-    ensures { result ≡ two a b }
+fn two_of(a: &[u8], b: &[u8]) -> Option<Numbers>
+    ensures { result ≡ two (number_of a.now) (number_of b.now) }
 {
-    let Number::Of(first) = a else {
-        return Numbers::Other;
-    };
-    let Number::Of(second) = b else {
-        return Numbers::Other;
-    };
-    Numbers::Two(first, second)
+    Some(Numbers::Two(number_of(a)?, number_of(b)?))
 }
 
 // What four fields write.
-fn four_of(a: Number, b: Number, c: Number, d: Number) -> Numbers
-    ensures { result ≡ four a b c d }
+fn four_of(a: &[u8], b: &[u8], c: &[u8], d: &[u8]) -> Option<Numbers>
+    ensures { result ≡ four (number_of a.now) (number_of b.now) (number_of c.now) (number_of d.now) }
 {
-    let Number::Of(first) = a else {
-        return Numbers::Other;
-    };
-    let Number::Of(second) = b else {
-        return Numbers::Other;
-    };
-    let Number::Of(third) = c else {
-        return Numbers::Other;
-    };
-    let Number::Of(fourth) = d else {
-        return Numbers::Other;
-    };
-    Numbers::Four(first, second, third, fourth)
-}
-
-// What a line writes that goes on with more fields behind its first two.
-fn numbers_behind(first: &[u8], second: &[u8], rest: &[u8]) -> Numbers
-    ensures { result ≡ numbers_of (first.now ∷ second.now ∷ fields_of rest.now) }
-{
-    let at = bytes_before(rest, 9);
-    if at == rest.len() {
-        return Numbers::Other;
-    }
-    let third = &rest[..at];
-    let last = &rest[at + 1..];
-    let end = bytes_before(last, 9);
-    let fourth = &last[..end];
-    if end == last.len() {
-        return four_of(
-            number_of(first),
-            number_of(second),
-            number_of(third),
-            number_of(fourth),
-        );
-    }
-    Numbers::Other
+    Some(Numbers::Four(number_of(a)?, number_of(b)?, number_of(c)?, number_of(d)?))
 }
 
 // The numbers of a line.
-pub fn numbers_in(line: &[u8]) -> Numbers
+pub fn numbers_in(line: &[u8]) -> Option<Numbers>
     ensures { result ≡ numbers_in line.now }
 {
-    let at = bytes_before(line, 9);
-    if at == line.len() {
-        return Numbers::Other;
+    let mut fields = line.split(|&b| b == b'\t');
+    let first = fields.next()?;
+    let second = fields.next()?;
+    let Some(third) = fields.next() else {
+        return two_of(first, second);
+    };
+    let fourth = fields.next()?;
+    match fields.next() {
+        None => four_of(first, second, third, fourth),
+        Some(_) => None,
     }
-    let first = &line[..at];
-    let rest = &line[at + 1..];
-    let end = bytes_before(rest, 9);
-    let second = &rest[..end];
-    if end == rest.len() {
-        return two_of(number_of(first), number_of(second));
-    }
-    numbers_behind(first, second, &rest[end + 1..])
 }

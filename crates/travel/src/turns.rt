@@ -6,7 +6,7 @@ use array::moves::Move;
 use runs::{Run, swaps_in};
 
 // A move of a list: how many moves of its run remain, itself counted, and how many swaps were made before it.
-#[derive(Clone, Copy)]
+#[derive(Clone, Copy, Debug, PartialEq, Eq)]
 pub struct Turn {
     pub step: Move,
     pub remaining: usize,
@@ -19,25 +19,20 @@ pub fn turn_at(runs: [Run; 9], k: usize) -> Turn
 {
     let mut remaining = k;
     let mut swaps: usize = 0;
-    let mut q: usize = 0;
-    while q < 9 {
-        let run = runs[q];
-        let step = run.step;
+    for run in &runs {
         if remaining < run.times {
-            let earlier = swaps + swaps_in(step, remaining);
             return Turn {
-                step: step,
+                step: run.step,
                 remaining: run.times - remaining,
-                swaps: earlier,
+                swaps: swaps + swaps_in(run.step, remaining),
             };
         }
-        swaps += swaps_in(step, run.times);
+        swaps += swaps_in(run.step, run.times);
         remaining -= run.times;
-        q += 1;
     }
     Turn {
         step: Move::Swap,
         remaining: 0,
-        swaps: swaps,
+        swaps,
     }
 }

@@ -7,7 +7,7 @@ use lib.ListN.{length}
 use lib.Seq.{sets}
 use borrow.Author.Tests.{eq-eqb}
 use Rattle.answers.specs.declared.Answer.{Answer}
-use Rattle.answers.specs.declared.Case.{Case}
+use Rattle.answers.specs.Answers.{Case}
 use Rattle.runs.specs.declared.Run.{Run}
 use Rattle.array.specs.Cells.{cells, is_board}
 use Rattle.runs.specs.Runs.{codes}

@@ -5,7 +5,7 @@ use mathlib.Core.List.{List}
 use Rattle.laws.specs.Lent.{Lent, new}
 use Rattle.runs.specs.declared.Run.{Run}
 use Rattle.answers.specs.declared.Answer.{Answer}
-use Rattle.answers.specs.declared.Case.{Case}
+use Rattle.answers.specs.Answers.{Case}
 use Rattle.answers.proofs.Outcomes.{left_with, same_outcome}
 use Rattle.words.specs.Entries.{OnWords}
 

@@ -2,31 +2,43 @@
 ghost use Rattle.std.specs.Prelude.{◌≡◌};
 ghost use Rattle.lists.specs.Lists.{broadcast_runs};
 ghost use Rattle.shiftlists.specs.Shifts.{shift_runs};
-ghost use Rattle.answers.specs.Answers.{verdict, accepted_by};
+ghost use Rattle.answers.specs.Answers.{verdict, accepted_by, answer_of};
 ghost use Rattle.words.specs.Entries.{broadcast_cases, sum_cases, shift_cases};
 
-use answers::{Answer, accepted_by, cell_case, log_case, refusing, refusing_lane};
+use answers::{Moves, Refusal, check_cell, check_lane, check_log, check_side, moves_of};
 use lists::broadcast_runs;
 use runs::Run;
-use shiftlists::{Axis, Edge, distance_case, shift_runs};
+use shiftlists::{Axis, Edge, check_distance, shift_runs};
 
-pub(crate) fn judge_broadcast(side: usize, cell: usize, length: usize, log: usize) -> Answer
-    ensures { result ≡ verdict (broadcast_cases side cell length log) (accepted_by (broadcast_runs side cell)) }
+pub(crate) fn judge_broadcast(
+    side: usize,
+    cell: usize,
+    length: usize,
+    log: usize,
+) -> Result<Moves, Refusal>
+    ensures { answer_of result ≡ verdict (broadcast_cases side cell length log) (accepted_by (broadcast_runs side cell)) }
 {
     let runs = broadcast_runs(side, cell);
-    let inside = refusing(cell_case(side, cell), accepted_by(runs));
-    refusing_lane(side, length, refusing(log_case(runs, log), inside))
+    check_side(side)?;
+    check_lane(side, length)?;
+    check_log(runs, log)?;
+    check_cell(side, cell)?;
+    Ok(moves_of(runs))
 }
 
 // Of data sum and of prefix sum.
-pub(crate) fn judge_sum(side: usize, runs: [Run; 9], length: usize, log: usize) -> Answer
-    ensures { result ≡ verdict (sum_cases side runs length log) (accepted_by runs) }
+pub(crate) fn judge_sum(
+    side: usize,
+    runs: [Run; 9],
+    length: usize,
+    log: usize,
+) -> Result<Moves, Refusal>
+    ensures { answer_of result ≡ verdict (sum_cases side runs length log) (accepted_by runs) }
 {
-    refusing_lane(
-        side,
-        length,
-        refusing(log_case(runs, log), accepted_by(runs)),
-    )
+    check_side(side)?;
+    check_lane(side, length)?;
+    check_log(runs, log)?;
+    Ok(moves_of(runs))
 }
 
 pub(crate) fn judge_shift(
@@ -36,10 +48,13 @@ pub(crate) fn judge_shift(
     k: i32,
     length: usize,
     log: usize,
-) -> Answer
-    ensures { result ≡ verdict (shift_cases side axis edge k length log) (accepted_by (shift_runs side axis edge k)) }
+) -> Result<Moves, Refusal>
+    ensures { answer_of result ≡ verdict (shift_cases side axis edge k length log) (accepted_by (shift_runs side axis edge k)) }
 {
     let runs = shift_runs(side, axis, edge, k);
-    let near = refusing(distance_case(side, k), accepted_by(runs));
-    refusing_lane(side, length, refusing(log_case(runs, log), near))
+    check_side(side)?;
+    check_lane(side, length)?;
+    check_log(runs, log)?;
+    check_distance(side, k)?;
+    Ok(moves_of(runs))
 }

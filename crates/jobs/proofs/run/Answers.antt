@@ -1,10 +1,10 @@
 -- `jobs::run` meets its contract: what is read is refused, or solved.
 use Rattle.jobtext.proofs.Boards.{ready_square, ready_cells, words_room, marks_room, words-part, marks-part}
-use Rattle.jobs.proofs.Answered.{ready_lanes, ready_filled, refused-filled}
+use Rattle.jobs.proofs.Answered.{ready_lanes, ready_filled, refused_output}
 use Rattle.jobs.proofs.run.Goals as goal
 
 pub returns-in_default : goal.returns-in_default
-returns-in_default c = search refused-filled
+returns-in_default c = search refused_output
 
 pub overflow_mul-cells : goal.overflow_mul-cells
 overflow_mul-cells c = search ready_square

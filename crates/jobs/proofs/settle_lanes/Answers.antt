@@ -1,41 +1,32 @@
 -- `jobs::settle_lanes` meets its contract: lanes of its own are as long as the board.
-use mathlib.Core.Path.{◌∙◌}
-use lib.Seq.{length-take-le}
+use Rattle.std.proofs.Common.{◌∙◌, length-take-le}
 use Rattle.texts.proofs.Reading.{part_length}
 use Rattle.jobs.proofs.Answered.{lane_room}
 use Rattle.jobs.proofs.settle_lanes.Goals as goal
 
-pub slice_bounds-aims-end : goal.slice_bounds-aims-end
-slice_bounds-aims-end c =
-    lane_room c.args.side c.requires.side_value c.requires.lanes_long.0
-
-pub slice_bounds-settle-end : goal.slice_bounds-settle-end
-slice_bounds-settle-end c =
-    part_length _ _ (lane_room c.args.side c.requires.side_value c.requires.lanes_long.0)
-
 pub slice_bounds-spare_words-end : goal.slice_bounds-spare_words-end
-slice_bounds-spare_words-end c =
-    lane_room c.args.side c.requires.side_value c.requires.lanes_long.0
+slice_bounds-spare_words-end c = lane_room c.args.side c.requires.side_value c.requires.lanes_long.0
 
-pub slice_bounds-settle-end-2 : goal.slice_bounds-settle-end-2
-slice_bounds-settle-end-2 c =
-    part_length _ _ (lane_room c.args.side c.requires.side_value c.requires.lanes_long.0)
+pub slice_bounds-spare-end : goal.slice_bounds-spare-end
+slice_bounds-spare-end c = part_length _ _ (lane_room c.args.side c.requires.side_value c.requires.lanes_long.0)
 
 pub slice_bounds-spare_marks-end : goal.slice_bounds-spare_marks-end
-slice_bounds-spare_marks-end c =
-    lane_room c.args.side c.requires.side_value c.requires.lanes_long.0
+slice_bounds-spare_marks-end c = lane_room c.args.side c.requires.side_value c.requires.lanes_long.0
 
-pub slice_bounds-settle-end-3 : goal.slice_bounds-settle-end-3
-slice_bounds-settle-end-3 c =
-    part_length _ _ (lane_room c.args.side c.requires.side_value c.requires.lanes_long.0)
+pub slice_bounds-spare-end-2 : goal.slice_bounds-spare-end-2
+slice_bounds-spare-end-2 c = part_length _ _ (lane_room c.args.side c.requires.side_value c.requires.lanes_long.0)
 
 pub slice_bounds-spare_aims-end : goal.slice_bounds-spare_aims-end
-slice_bounds-spare_aims-end c =
-    lane_room c.args.side c.requires.side_value c.requires.lanes_long.0
+slice_bounds-spare_aims-end c = lane_room c.args.side c.requires.side_value c.requires.lanes_long.0
 
-pub slice_bounds-settle-end-4 : goal.slice_bounds-settle-end-4
-slice_bounds-settle-end-4 c =
-    part_length _ _ (lane_room c.args.side c.requires.side_value c.requires.lanes_long.0)
+pub slice_bounds-spare-end-3 : goal.slice_bounds-spare-end-3
+slice_bounds-spare-end-3 c = part_length _ _ (lane_room c.args.side c.requires.side_value c.requires.lanes_long.0)
+
+pub slice_bounds-aims-end : goal.slice_bounds-aims-end
+slice_bounds-aims-end c = lane_room c.args.side c.requires.side_value c.requires.lanes_long.0
+
+pub slice_bounds-settle-end : goal.slice_bounds-settle-end
+slice_bounds-settle-end c = part_length _ _ (lane_room c.args.side c.requires.side_value c.requires.lanes_long.0)
 
 pub settle-requires : goal.settle-requires
 settle-requires c =

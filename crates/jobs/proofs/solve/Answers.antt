@@ -13,7 +13,7 @@ settle_lanes-requires c =
 pub print-requires : goal.print-requires
 print-requires c =
     let b = c.requires in
-    let k = side_known c.args.side b.side in
+    let k = side_known c.args.job.side b.side in
     record {
       side_value = b.side;
       marked_bound = omega (arith, k, b);

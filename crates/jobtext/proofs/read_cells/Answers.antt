@@ -1,45 +1,54 @@
 -- `jobtext::read_cells` meets its contract: line after line, each a marked cell.
-use Rattle.jobtext.proofs.Cells.{square_fits, cells_fit, cell_inside, cell_scaled, cell_counted, cells_begin, cells-end, cells_unended, cells_malformed, cells_next}
-use Rattle.texts.proofs.Reading.{part_length}
-use borrow.Author.Rules.{rules}
+use Rattle.std.proofs.Common.{arith, ◌∙◌, sym}
+use Rattle.std.proofs.lemmas.Option.{MatchOption-at_some, MatchOption-at_none}
+use Rattle.std.proofs.lemmas.Result.{err_from_is_err_and}
+use borrow.Author.Tests.{eqb-true, eqb-false}
+use Rattle.jobtext.proofs.Entries.{none_refused}
+use Rattle.jobtext.proofs.Cells.{cells_begin, cells_end, cells_unended, cells_malformed, cell_inside, cells_next}
 use Rattle.jobtext.proofs.read_cells.Goals as goal
 
-pub overflow_mul-cells : goal.overflow_mul-cells
-overflow_mul-cells c = search square_fits
+pub loop-rest-init : goal.loop-rest-init
+loop-rest-init c = search cells_begin
 
-pub overflow_mul-cells-2 : goal.overflow_mul-cells-2
-overflow_mul-cells-2 c = search square_fits
+pub returns-in_err-line : goal.returns-in_err-line
+returns-in_err-line c =
+    let none = c.in_err-line.ensures.ok_part in
+    let p = err_from_is_err_and c.from_residual.result c.from_residual.ensures.1 in
+    let e = none_refused p.1 p.2 c.in_err-line.ensures.value none in
+    cells_unended c.loop-rest.invariant (eqb-false _ _ (sym c.loop-rest-test.ensures)) (MatchOption-at_none _ _ none c.split_once.ensures) e
 
-pub overflow_mul-cells-3 : goal.overflow_mul-cells-3
-overflow_mul-cells-3 c = search cells_fit
+pub returns-in_err-cell : goal.returns-in_err-cell
+returns-in_err-cell c =
+    let parted = MatchOption-at_some _ _ _ c.in_ok-line.ensures.ok_part c.split_once.ensures in
+    let none = c.in_err-cell.ensures.ok_part in
+    let p = err_from_is_err_and c.from_residual-in_err-cell.result c.from_residual-in_err-cell.ensures.1 in
+    let e = none_refused p.1 p.2 c.in_err-cell.ensures.value none in
+    cells_malformed c.loop-rest.invariant parted (sym none ∙ c.read_mark.ensures) e
 
-pub loop-at-init : goal.loop-at-init
-loop-at-init c = search cells_begin
+pub offset_bounds-words-cell : goal.offset_bounds-words-cell
+offset_bounds-words-cell c =
+    let parted = MatchOption-at_some _ _ _ c.in_ok-line.ensures.ok_part c.split_once.ensures in
+    omega (arith, cell_inside c.loop-rest.invariant parted _ (sym c.in_ok-cell.ensures.ok_part ∙ c.read_mark.ensures))
 
-pub returns-then-end-rest : goal.returns-then-end-rest
-returns-then-end-rest c = search cells_unended
+pub bounds-words-cell : goal.bounds-words-cell
+bounds-words-cell c =
+    let parted = MatchOption-at_some _ _ _ c.in_ok-line.ensures.ok_part c.split_once.ensures in
+    cell_inside c.loop-rest.invariant parted _ (sym c.in_ok-cell.ensures.ok_part ∙ c.read_mark.ensures)
 
-pub slice_bounds-read_mark-end : goal.slice_bounds-read_mark-end
-slice_bounds-read_mark-end c = search part_length
-
-pub returns-in_default : goal.returns-in_default
-returns-in_default c = search cells_malformed
-
-pub offset_bounds-words-index : goal.offset_bounds-words-index
-offset_bounds-words-index c = search cell_scaled
-
-pub bounds-words-index : goal.bounds-words-index
-bounds-words-index c = search cell_inside
-
-pub bounds-marks-index : goal.bounds-marks-index
-bounds-marks-index c = search cell_inside
+pub bounds-marks-cell : goal.bounds-marks-cell
+bounds-marks-cell c =
+    let parted = MatchOption-at_some _ _ _ c.in_ok-line.ensures.ok_part c.split_once.ensures in
+    cell_inside c.loop-rest.invariant parted _ (sym c.in_ok-cell.ensures.ok_part ∙ c.read_mark.ensures)
 
 pub overflow_add-next : goal.overflow_add-next
-overflow_add-next c = search cell_counted
+overflow_add-next c =
+    let parted = MatchOption-at_some _ _ _ c.in_ok-line.ensures.ok_part c.split_once.ensures in
+    omega (arith, cell_inside c.loop-rest.invariant parted _ (sym c.in_ok-cell.ensures.ok_part ∙ c.read_mark.ensures))
 
-pub loop-at-preserved : goal.loop-at-preserved
-loop-at-preserved c =
-    cells_next c.loop-at.invariant (search rules) _ (search rules) (search rules) (search rules) c.read_mark.result (search rules) _ _ (search rules)
+pub loop-rest-preserved : goal.loop-rest-preserved
+loop-rest-preserved c =
+    let parted = MatchOption-at_some _ _ _ c.in_ok-line.ensures.ok_part c.split_once.ensures in
+    cells_next c.loop-rest.invariant parted _ (sym c.in_ok-cell.ensures.ok_part ∙ c.read_mark.ensures)
 
 pub returns : goal.returns
-returns c = search cells-end
+returns c = cells_end c.loop-rest.invariant (eqb-true _ _ (sym c.loop-rest-test.ensures))

@@ -1,11 +1,10 @@
--- `jobtext::read_cells` meets its contract: line after line, each a marked cell.
+-- `jobtext::read_cells`: line after line, each a marked cell.
+use Rattle.std.proofs.Common.{length}
 use Rattle.jobtext.proofs.Cells.{Cells}
-use lib.ListN.{length}
-use Prim.Native.Nat.{◌-◌}
 use Rattle.jobtext.proofs.read_cells.Given as goal
 
-abbrev pub invariant-loop-at : goal.invariant-loop-at
-invariant-loop-at l = Cells l.text l.side l.initial.words l.initial.marks l.words l.marks l.at l.line l.next l.marked
+abbrev pub invariant-loop-rest : goal.invariant-loop-rest
+invariant-loop-rest l = Cells l.text l.side l.initial.words l.initial.marks l.words l.marks l.rest l.next l.marked
 
-abbrev pub decreases-loop-at : goal.decreases-loop-at
-decreases-loop-at l = length l.text - l.at
+abbrev pub decreases-loop-rest : goal.decreases-loop-rest
+decreases-loop-rest l = length l.rest

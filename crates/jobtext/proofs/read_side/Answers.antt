@@ -1,16 +1,14 @@
 -- `jobtext::read_side` meets its contract: the word and the number of the first line.
-use Rattle.jobtext.proofs.Entries.{side_no_tab, side_named, side_unnamed}
-use Rattle.texts.proofs.Reading.{part_length}
+use Rattle.std.proofs.Common.{◌∙◌}
+use Rattle.jobtext.proofs.Entries.{side_no_tab, side_unnamed, side_named}
 use Rattle.jobtext.proofs.read_side.Goals as goal
 
-pub returns-then-at-line : goal.returns-then-at-line
-returns-then-at-line c = search side_no_tab
+pub returns-in_err-name : goal.returns-in_err-name
+returns-in_err-name c = c.from_residual.ensures ∙ side_no_tab _ c.in_err-name.ensures
 
-pub slice_bounds-same-end : goal.slice_bounds-same-end
-slice_bounds-same-end c = search part_length
+pub returns-then-ne : goal.returns-then-ne
+returns-then-ne c = side_unnamed c.in_ok-name.ensures c.as_slice.ensures c.ne.ensures c.if-ne.true
 
-pub returns-then-same : goal.returns-then-same
-returns-then-same c = search side_named
-
-pub returns-else-same : goal.returns-else-same
-returns-else-same c = search side_unnamed
+pub returns : goal.returns
+returns c =
+    c.number_of.ensures ∙ side_named c.in_ok-name.ensures c.as_slice.ensures c.ne.ensures c.if-ne.false

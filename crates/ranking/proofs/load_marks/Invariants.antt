@@ -1,11 +1,7 @@
 -- `ranking::load_marks` meets its contract: the words are filled from the marks.
-use Prim.Native.Nat.{◌-◌, ◌≤◌}
 use lib.ListN.{length, get_or}
 use Rattle.laws.proofs.Filling.{Filled}
 use Rattle.ranking.proofs.load_marks.Given as goal
 
 abbrev pub invariant-loop-i : goal.invariant-loop-i
-invariant-loop-i l = (l.i ≤ length l.marks) × Filled (λ k. get_or l.marks k 0) 0 (length l.marks) l.sums l.i
-
-abbrev pub decreases-loop-i : goal.decreases-loop-i
-decreases-loop-i l = length l.marks - l.i
+invariant-loop-i l = Filled (λ k. get_or l.marks k 0) 0 (length l.marks) l.sums l.i

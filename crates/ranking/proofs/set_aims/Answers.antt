@@ -6,14 +6,14 @@ use Rattle.ranking.proofs.Aims.{sum_few, aim_is}
 use Rattle.ranking.proofs.set_aims.Goals as goal
 
 pub loop-i-init : goal.loop-i-init
-loop-i-init c = (search rules, filled-start _ _ (search rules))
+loop-i-init c = filled-start _ _ (search rules)
 
 pub aim-requires : goal.aim-requires
 aim-requires c = sum_few c.requires.summed c.loop-i.i (search rules)
 
 pub loop-i-preserved : goal.loop-i-preserved
 loop-i-preserved c =
-    (search rules, filled_next _ _ _ (search rules) (c.aim.ensures ∙ aim_is c.requires.summed c.loop-i.i (search rules)) c.loop-i.invariant.1)
+    filled_next _ _ _ (search rules) (c.aim.ensures ∙ aim_is c.requires.summed c.loop-i.i (search rules)) c.loop-i.invariant
 
 pub returns : goal.returns
-returns c = filled-end _ _ (search rules) c.loop-i.invariant.1
+returns c = filled-end _ _ (search rules) c.loop-i.invariant

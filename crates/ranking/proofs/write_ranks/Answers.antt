@@ -2,6 +2,6 @@
 use Rattle.array.proofs.Board.{side_known}
 use Rattle.ranking.proofs.write_ranks.Goals as goal
 
-pub write_many-requires-clause-marks_len_bound : goal.write_many-requires-clause-marks_len_bound
-write_many-requires-clause-marks_len_bound c =
+pub write_within-requires-else-marks-le256-clause-marks_len_bound : goal.write_within-requires-else-marks-le256-clause-marks_len_bound
+write_within-requires-else-marks-le256-clause-marks_len_bound c =
     rw c.requires.good_marks.size (side_known c.args.side c.requires.good_marks.side).cells_few

@@ -1,15 +1,9 @@
--- `replays::put_replay` meets its contract: the line of each of the four.
-use Rattle.replays.proofs.Lines.{agrees_put, differs_put, early_put, refused_put}
+-- `replays::put_replay` meets its contract: the line of a replay, or of its refusal.
+use Rattle.replays.proofs.Lines.{replayed_filled, refused_filled}
 use Rattle.replays.proofs.put_replay.Goals as goal
 
-pub returns-in-Agrees : goal.returns-in-Agrees
-returns-in-Agrees c = search agrees_put
+pub returns-in-Ok : goal.returns-in-Ok
+returns-in-Ok c = search replayed_filled
 
-pub returns-in-Differs : goal.returns-in-Differs
-returns-in-Differs c = search differs_put
-
-pub returns-in-Early : goal.returns-in-Early
-returns-in-Early c = search early_put
-
-pub returns-in-Refused : goal.returns-in-Refused
-returns-in-Refused c = search refused_put
+pub returns-in-Err : goal.returns-in-Err
+returns-in-Err c = search refused_filled

@@ -4,5 +4,5 @@ use Rattle.shifts.proofs.shift_lanes.Goals as goal
 
 pub returns : goal.returns
 returns c =
-    shift_lanes _ c.args.way c.args.edge c.args.forth c.args.around _ c.requires.few.0 c.requires.few.1 c.opposite.ensures
-    c.combine.ensures c.run.ensures c.run-2.ensures c.choose.ensures
+    shift_lanes _ c.args.way c.args.shift _ c.requires.fits c.opposite.ensures c.copy_from_slice.ensures.after c.run.ensures c.run-2.ensures
+    c.choose.ensures

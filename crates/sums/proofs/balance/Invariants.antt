@@ -1,11 +1,6 @@
--- `sums::balance` meets its contract: cell by cell, by `Renewed`, where all are as long.
-use Rattle.std.proofs.Common.{◌-◌, ◌≤◌, length}
-use Rattle.sums.proofs.Renewing.{Renewed}
+use Rattle.laws.proofs.Rewriting.{Rewriting}
 use Rattle.sums.proofs.Balancing.{balanced}
 use Rattle.sums.proofs.balance.Given as goal
 
 abbrev pub invariant-loop-i : goal.invariant-loop-i
-invariant-loop-i l = (l.i ≤ length l.initial.to) × Renewed (balanced l.more l.less) l.initial.to l.i l.to
-
-abbrev pub decreases-loop-i : goal.decreases-loop-i
-decreases-loop-i l = l.n - l.i
+invariant-loop-i l = Rewriting (balanced l.initial.to l.more l.less) 0 l.initial.to l.to l.i

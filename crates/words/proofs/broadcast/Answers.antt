@@ -1,6 +1,5 @@
 -- `words::broadcast` meets its contract: refused, all is as it was; accepted, the lane holds the result.
 use mathlib.Core.Path.{refl}
-use Rattle.answers.proofs.Entering.{entry_refused}
 use Rattle.words.proofs.Entering.{on_words}
 use mathlib.Core.List.{[], ◌∷◌}
 use borrow.Author.Tests.{not-false}
@@ -10,13 +9,10 @@ use Rattle.spreads.specs.Results.{broadcast_words}
 use Rattle.answers.specs.Answers.{cell_case}
 use Rattle.words.proofs.broadcast.Goals as goal
 
-pub returns-then-answer-ne0 : goal.returns-then-answer-ne0
-returns-then-answer-ne0 c = entry_refused c.judge_broadcast-answer.ensures c.if-answer-ne0.true (refl, refl)
-
 pub returns : goal.returns
 returns c =
     let a = c.args in
     let words = a.words.now in
     on_words a.side (broadcast_runs a.side a.cell) (cell_case a.side a.cell ∷ []) words a.codes.now (broadcast_words a.side a.cell words)
-    refl c.judge_broadcast-answer.ensures c.if-answer-ne0.false (λ b n. rw (b, not-false (is_cell a.side a.cell) n.0) at c.broadcast_words.ensures)
+    refl c.in_ok-moves.ensures refl (λ b n. rw (b, not-false (is_cell a.side a.cell) n.0) at c.broadcast_words.ensures)
     c.broadcast_runs.ensures c.write_codes.ensures

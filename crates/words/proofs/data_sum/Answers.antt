@@ -1,20 +1,15 @@
 -- `words::data_sum` meets its contract: refused, all is as it was; accepted, the lane holds the result.
 use mathlib.Core.Path.{refl}
-use Rattle.answers.proofs.Entering.{entry_refused}
 use Rattle.words.proofs.Entering.{on_words}
 use mathlib.Core.List.{[]}
 use Rattle.lists.specs.Lists.{data_sum_runs}
 use Rattle.spreads.specs.Results.{data_sum_words}
 use Rattle.words.proofs.data_sum.Goals as goal
 
-pub returns-then-answer-ne0 : goal.returns-then-answer-ne0
-returns-then-answer-ne0 c =
-    entry_refused (rw c.data_sum_runs.ensures at c.judge_sum-answer.ensures) c.if-answer-ne0.true (refl, refl)
-
 pub returns : goal.returns
 returns c =
     let a = c.args in
     let words = a.words.now in
     on_words a.side (data_sum_runs a.side) [] words a.codes.now (data_sum_words a.side words)
-    refl (rw c.data_sum_runs.ensures at c.judge_sum-answer.ensures) c.if-answer-ne0.false (λ b n. rw b at c.data_sum_words.ensures)
+    refl (rw c.data_sum_runs.ensures at c.in_ok-moves.ensures) refl (λ b n. rw b at c.data_sum_words.ensures)
     c.data_sum_runs-2.ensures c.write_codes.ensures

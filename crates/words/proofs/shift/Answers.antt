@@ -1,20 +1,14 @@
--- `words::shift` meets its contract: refused, all is as it was; accepted, the lane holds the result. The distance is as the machine reads it.
+-- `words::shift` meets its contract: refused, all is as it was; accepted, the lane holds the result.
 use mathlib.Core.Path.{refl}
-use Rattle.answers.proofs.Entering.{entry_refused}
+use mir.Syntax.{w32}
+use mir.ValLaws.{to_z-of_z}
 use Rattle.words.proofs.Entering.{on_words}
 use mathlib.Core.List.{[], ◌∷◌}
 use borrow.Author.Tests.{not-false}
 use Rattle.shiftlists.specs.Cases.{distance_case}
 use Rattle.shiftlists.specs.Shifts.{distance_of, within, shift_runs}
 use Rattle.shifts.specs.Results.{shift_words}
-use mir.Syntax.{w32}
-use mir.ValLaws.{to_z-of_z}
 use Rattle.words.proofs.shift.Goals as goal
-
-pub returns-then-answer-ne0 : goal.returns-then-answer-ne0
-returns-then-answer-ne0 c =
-    let read = to_z-of_z w32 c.args.k c.ranges.k in
-    entry_refused (rw read at c.judge_shift-answer.ensures) c.if-answer-ne0.true (refl, refl)
 
 pub returns : goal.returns
 returns c =
@@ -23,6 +17,6 @@ returns c =
     let read = to_z-of_z w32 a.k c.ranges.k in
     let list = shift_runs a.side a.axis a.edge a.k in
     on_words a.side list (distance_case a.side a.k ∷ []) words a.codes.now (shift_words a.side a.axis a.edge a.k words)
-    refl (rw read at c.judge_shift-answer.ensures) c.if-answer-ne0.false
+    refl (rw read at c.in_ok-moves.ensures) refl
     (λ b n. rw (b, not-false (within a.side (distance_of a.k)) n.0) at (rw read at c.shift_words.ensures))
     (rw read at c.shift_runs.ensures) c.write_codes.ensures

@@ -1,55 +1,30 @@
 -- `captures::state::records_after` meets its contract: lanes of its own are as long as the board.
-use Rattle.texts.proofs.Reading.{part_length}
-use Rattle.captures.proofs.Starting.{small_board, front_long, front_room, board_lent, listed_from}
+use Rattle.captures.proofs.Starting.{small_board, front_room, board_lent, listed_from}
 use Rattle.captures.proofs.state.records_after.Goals as goal
 
 pub slice_bounds-words-end : goal.slice_bounds-words-end
 slice_bounds-words-end c =
     front_room c.args.side c.args.n c.args.start.words c.requires.n_value c.requires.started.words_long
 
-pub slice_bounds-records_on-end : goal.slice_bounds-records_on-end
-slice_bounds-records_on-end c =
-    front_long c.args.side c.args.n c.args.start.words c.requires.n_value c.requires.started.words_long
-
 pub slice_bounds-marks-end : goal.slice_bounds-marks-end
 slice_bounds-marks-end c =
     front_room c.args.side c.args.n c.args.start.marks c.requires.n_value c.requires.started.marks_long
-
-pub slice_bounds-records_on-end-2 : goal.slice_bounds-records_on-end-2
-slice_bounds-records_on-end-2 c =
-    front_long c.args.side c.args.n c.args.start.marks c.requires.n_value c.requires.started.marks_long
 
 pub slice_bounds-aims-end : goal.slice_bounds-aims-end
 slice_bounds-aims-end c =
     front_room c.args.side c.args.n c.args.start.aims c.requires.n_value c.requires.started.aims_long
 
-pub slice_bounds-records_on-end-3 : goal.slice_bounds-records_on-end-3
-slice_bounds-records_on-end-3 c =
-    front_long c.args.side c.args.n c.args.start.aims c.requires.n_value c.requires.started.aims_long
-
 pub slice_bounds-spare_words-end : goal.slice_bounds-spare_words-end
 slice_bounds-spare_words-end c =
     small_board c.args.side c.args.n c.args.start c.requires.started c.requires.n_value
-
-pub slice_bounds-records_on-end-4 : goal.slice_bounds-records_on-end-4
-slice_bounds-records_on-end-4 c =
-    part_length _ _ (small_board c.args.side c.args.n c.args.start c.requires.started c.requires.n_value)
 
 pub slice_bounds-spare_marks-end : goal.slice_bounds-spare_marks-end
 slice_bounds-spare_marks-end c =
     small_board c.args.side c.args.n c.args.start c.requires.started c.requires.n_value
 
-pub slice_bounds-records_on-end-5 : goal.slice_bounds-records_on-end-5
-slice_bounds-records_on-end-5 c =
-    part_length _ _ (small_board c.args.side c.args.n c.args.start c.requires.started c.requires.n_value)
-
 pub slice_bounds-spare_aims-end : goal.slice_bounds-spare_aims-end
 slice_bounds-spare_aims-end c =
     small_board c.args.side c.args.n c.args.start c.requires.started c.requires.n_value
-
-pub slice_bounds-records_on-end-6 : goal.slice_bounds-records_on-end-6
-slice_bounds-records_on-end-6 c =
-    part_length _ _ (small_board c.args.side c.args.n c.args.start c.requires.started c.requires.n_value)
 
 pub records_on-requires : goal.records_on-requires
 records_on-requires c =

@@ -15,6 +15,5 @@ code_at-requires c =
 pub returns : goal.returns
 returns c =
     let a = c.args in
-    turned a.side a.count a.number a.code _ _ _ _ _ a.tally _ c.in_turn.ensures c.if-not-in_turn.false
-    c.code_at.ensures c.unless-missing.ensures
-    c.unless-other.ensures c.earlier.ensures c.earlier-2.ensures
+    turned a.side a.count a.number a.code _ _ _ _ _ _ a.tally _ c.in_turn.ensures c.if-not-in_turn.false
+    c.code_at.ensures c.then_some-missing.ensures c.ne.ensures c.then_some-other.ensures c.or.ensures c.or-2.ensures

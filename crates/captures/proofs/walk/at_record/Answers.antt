@@ -19,6 +19,5 @@ overflow_add-result c =
 pub returns : goal.returns
 returns c =
     let a = c.args in
-    placed a.side _ _ _ a.tally a.records a.held _ _ c.in_place.ensures c.if-not-in_place.false
-    c.is_first.ensures c.unless-other.ensures
-    c.earlier.ensures c.order_of.ensures
+    placed a.side _ _ _ a.tally a.records.now a.held _ _ c.in_place.ensures c.if-not-in_place.false
+    c.is_first.ensures c.then_some-other.ensures c.or.ensures c.order_of.ensures

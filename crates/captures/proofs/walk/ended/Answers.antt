@@ -2,8 +2,8 @@
 use Rattle.captures.proofs.Telling.{end_differs, end_missing, end_agrees, end_early}
 use Rattle.captures.proofs.walk.ended.Goals as goal
 
-pub returns-then-tally-ne0 : goal.returns-then-tally-ne0
-returns-then-tally-ne0 c = search end_differs
+pub returns-in-Some : goal.returns-in-Some
+returns-in-Some c = search end_differs
 
 pub returns-then-tally-count : goal.returns-then-tally-count
 returns-then-tally-count c = search end_missing

@@ -1,11 +1,10 @@
 -- `captures::walk::walk` meets its contract: line after line.
-use Prim.Native.Nat.{◌-◌}
 use lib.ListN.{length}
 use Rattle.captures.proofs.Walking.{Walking}
 use Rattle.captures.proofs.walk.walk.Given as goal
 
-abbrev pub invariant-loop-at : goal.invariant-loop-at
-invariant-loop-at l = Walking l.side l.start l.capture l.at l.line l.tally l.records
+abbrev pub invariant-loop-rest : goal.invariant-loop-rest
+invariant-loop-rest l = Walking l.side l.start l.capture l.rest l.line l.tally l.records
 
-abbrev pub decreases-loop-at : goal.decreases-loop-at
-decreases-loop-at l = length l.capture - l.at
+abbrev pub decreases-loop-rest : goal.decreases-loop-rest
+decreases-loop-rest l = length l.rest

@@ -1,10 +1,5 @@
--- `lanes::steps::join_places` meets its contract: place by place, by `PlacesLaid`.
-use Prim.Native.Nat.{◌≤◌, ◌-◌}
 use Rattle.lanes.specs.Inside.{PlacesLaid, join_from}
 use Rattle.lanes.proofs.steps.join_places.Given as goal
 
 abbrev pub invariant-loop-k : goal.invariant-loop-k
-invariant-loop-k l = (l.k ≤ l.count) × PlacesLaid l.to l.apart l.k (join_from l.joining l.to l.from l.apart l.initial.part) l.initial.part l.part
-
-abbrev pub decreases-loop-k : goal.decreases-loop-k
-decreases-loop-k l = l.count - l.k
+invariant-loop-k l = PlacesLaid l.to l.apart l.k (join_from l.joining l.to l.from l.apart l.initial.part) l.initial.part l.part

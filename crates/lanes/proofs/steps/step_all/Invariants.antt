@@ -1,12 +1,7 @@
--- `lanes::steps::step_all` meets its contract: group by group, by `Changed`.
-use Prim.Native.Nat.{◌≤◌, ◌-◌}
 use Rattle.array.specs.Cells.{groups}
 use Rattle.laws.proofs.Blocks.{Changed}
 use Rattle.lanes.specs.Inside.{stepped}
 use Rattle.lanes.proofs.steps.step_all.Given as goal
 
 abbrev pub invariant-loop-g : goal.invariant-loop-g
-invariant-loop-g l = (l.g ≤ groups l.side) × Changed (stepped l.side l.way l.rule) (groups l.side) l.initial.words l.g l.words
-
-abbrev pub decreases-loop-g : goal.decreases-loop-g
-decreases-loop-g l = groups l.side - l.g
+invariant-loop-g l = Changed (stepped l.side l.way l.rule) (groups l.side) l.initial.words l.g l.words

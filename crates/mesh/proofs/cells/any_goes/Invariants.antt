@@ -1,12 +1,10 @@
-use Prim.Native.Nat.{◌-◌, ◌≤◌}
+-- `mesh::cells::any_goes` meets its contract: cell after cell of the line.
 use mathlib.Core.Path.{◌≡◌}
 use mathlib.Core.Bool.{true}
+use Rattle.slots.specs.Lanes.{records_in}
 use Rattle.mesh.specs.Lines.{none_leaves}
-use Rattle.mesh.specs.Inside.{slots_at}
+use Rattle.mesh.specs.Inside.{line_at}
 use Rattle.mesh.proofs.cells.any_goes.Given as goal
 
 abbrev pub invariant-loop-p : goal.invariant-loop-p
-invariant-loop-p l = (l.p ≤ l.t.side) × (none_leaves l.t (slots_at l.t l.start l.marks l.aims) l.p ≡ true)
-
-abbrev pub decreases-loop-p : goal.decreases-loop-p
-decreases-loop-p l = l.t.side - l.p
+invariant-loop-p l = none_leaves l.by.rule (line_at l.by.rule l.start (records_in l.slots)) l.p ≡ true

@@ -1,10 +1,7 @@
-use Prim.Native.Nat.{◌-◌}
-use Rattle.slots.specs.Cells.{record_in}
+-- `mesh::cells::take_slots` meets its contract: cell after cell of the line.
+use Rattle.slots.specs.Lanes.{records_in}
 use Rattle.mesh.proofs.Slots.{Taking}
 use Rattle.mesh.proofs.cells.take_slots.Given as goal
 
 abbrev pub invariant-loop-p : goal.invariant-loop-p
-invariant-loop-p l = Taking l.t l.start l.p (record_in l.words l.marks l.aims) l.line
-
-abbrev pub decreases-loop-p : goal.decreases-loop-p
-decreases-loop-p l = l.t.side - l.p
+invariant-loop-p l = Taking l.by.rule l.start l.p (records_in l.slots) l.line

@@ -1,33 +1,39 @@
--- `plainrecords::bodies::run` meets its contract: a refusal changes nothing; else the spare lanes are cleared and the records arranged.
-use mathlib.Core.Path.{refl, sym, ◌∙◌}
+-- `plainrecords::bodies::run` meets its contract: a refusal changes nothing; else the spare lanes are emptied and the records arranged.
+use Rattle.std.proofs.Common.{◌≡◌, Err, refl, sym, ◌∙◌, rules}
 use Rattle.answers.proofs.Entering.{entry_refused, entry_accepted}
-use Rattle.records.specs.Entries.{sizes_of}
+use Rattle.answers.proofs.Judging.{refusal_numbered}
+use Rattle.refusals.specs.Cases.{sizes_in}
+use Rattle.refusals.proofs.Verdicting.{unlogged_framed}
 use Rattle.plainrecords.proofs.Answering.{trip_answer, trip_known}
 use Rattle.plainrecords.proofs.Ending.{ended}
 use Rattle.plainrecords.proofs.bodies.run.Goals as goal
 
-pub returns-then-answer-ne0 : goal.returns-then-answer-ne0
-returns-then-answer-ne0 c =
+pub returns-in_err-moves-clause-run : goal.returns-in_err-moves-clause-run
+returns-in_err-moves-clause-run c =
     let a = c.args in
-    let sizes = sizes_of a.words.now a.spare_words.now a.spare_marks.now a.spare_aims.now in
-    let e = trip_answer a.trip a.side sizes a.marks.now a.aims.now c.total_moves.ensures c.over.ensures c.judge_unlogged-answer.ensures in
-    entry_refused e c.if-answer-ne0.true refl
+    let t = a.lanes.now.front.now in
+    let same : c.from_residual.result ≡ Err c.in_err-moves.field-0.0 = search rules in
+    let told = rw c.in_err-moves.was at (unlogged_framed c.new-frame.ensures a.trip _ c.judge_unlogged.ensures) in
+    let e = trip_answer a.trip a.side (sizes_in t a.lanes.now.spare.now) t.marks.now t.aims.now c.moves_of.ensures told in
+    entry_refused (rw same e) (refusal_numbered same) refl
 
 pub arrange-requires : goal.arrange-requires
 arrange-requires c =
     let a = c.args in
-    let sizes = sizes_of a.words.now a.spare_words.now a.spare_marks.now a.spare_aims.now in
-    let e = trip_answer a.trip a.side sizes a.marks.now a.aims.now c.total_moves.ensures c.over.ensures c.judge_unlogged-answer.ensures in
-    let k = trip_known a.trip a.side sizes a.marks.now a.aims.now e c.if-answer-ne0.false in
+    let t = a.lanes.now.front.now in
+    let sizes = sizes_in t a.lanes.now.spare.now in
+    let told = rw c.in_ok-moves.was at (unlogged_framed c.new-frame.ensures a.trip _ c.judge_unlogged.ensures) in
+    let e = trip_answer a.trip a.side sizes t.marks.now t.aims.now c.moves_of.ensures told in
+    let k = trip_known a.trip a.side sizes t.marks.now t.aims.now e refl in
     record { trip_lanes = k.lanes; words_len = k.fits.words ∙ sym k.fits.marks; aims_len = k.fits.aims ∙ sym k.fits.marks }
 
-pub returns : goal.returns
-returns c =
+pub returns-clause-run : goal.returns-clause-run
+returns-clause-run c =
     let a = c.args in
-    let sizes = sizes_of a.words.now a.spare_words.now a.spare_marks.now a.spare_aims.now in
-    let e = trip_answer a.trip a.side sizes a.marks.now a.aims.now c.total_moves.ensures c.over.ensures c.judge_unlogged-answer.ensures in
-    let z = c.if-answer-ne0.false in
-    let k = trip_known a.trip a.side sizes a.marks.now a.aims.now e z in
-    let o = c.empty_spares.ensures in
-    let t = ended a.side a.spare_words.now a.spare_marks.now a.spare_aims.now k.fits.marks c.arrange.ensures o.words o.marks o.aims in
-    entry_accepted e z t tt
+    let t = a.lanes.now.front.now in
+    let u = a.lanes.now.spare.now in
+    let told = rw c.in_ok-moves.was at (unlogged_framed c.new-frame.ensures a.trip _ c.judge_unlogged.ensures) in
+    let e = trip_answer a.trip a.side (sizes_in t u) t.marks.now t.aims.now c.moves_of.ensures told in
+    let k = trip_known a.trip a.side (sizes_in t u) t.marks.now t.aims.now e refl in
+    let o = c.empty.ensures in
+    entry_accepted e refl (ended a.side u.words.now u.marks.now u.aims.now k.fits.marks c.arrange.ensures.arranged o.words o.marks o.aims) tt

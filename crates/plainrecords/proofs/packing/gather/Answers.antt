@@ -7,24 +7,13 @@ use Rattle.plainrecords.proofs.packing.gather.Goals as goal
 pub loop-i-init : goal.loop-i-init
 loop-i-init c = gathering_start
 
-pub bounds-words-i : goal.bounds-words-i
-bounds-words-i c =
-    omega (arith, c.requires.words_len, c.loop-i.invariant.long, c.loop-i-test.true)
-
-pub bounds-words-rank : goal.bounds-words-rank
-bounds-words-rank c =
-    omega (arith, c.requires.words_len, c.loop-i.invariant.long, c.loop-i.invariant.count.few, c.loop-i-test.true)
-
 pub overflow_add-rank : goal.overflow_add-rank
 overflow_add-rank c =
-    omega (arith, next_few _ c.requires.board_marks c.loop-i-test.true c.wide-rank.ensures c.loop-i.invariant.count)
+    omega (arith, next_few _ c.requires.board_marks c.loop-i-test.true c.from-rank.ensures c.loop-i.invariant.count)
 
 pub loop-i-preserved : goal.loop-i-preserved
 loop-i-preserved c =
-    gathering_next _ c.requires.board_marks c.requires.words_len c.loop-i-test.true c.wide-rank.ensures c.loop-i.invariant
-
-pub shape_of-words : goal.shape_of-words
-shape_of-words c = c.loop-i.invariant.long
+    gathering_next _ c.requires.board_marks c.requires.words_len c.loop-i-test.true c.from-rank.ensures c.loop-i.invariant
 
 pub returns : goal.returns
 returns c = gathering_end c.loop-i-test.false c.loop-i.invariant

@@ -6,4 +6,4 @@ use Rattle.plainrecords.proofs.packing.pack.Goals as goal
 pub returns : goal.returns
 returns c =
     packed c.requires.board_marks (c.gather-count.auto.words ∙ c.requires.words_len) c.requires.aims_len c.gather-count.ensures
-    c.keep_first_words.ensures c.mark_first.ensures c.number_first.ensures
+    c.keep_first.ensures c.mark_first.ensures c.number_first.ensures

@@ -14,12 +14,12 @@ aim-requires c =
 
 pub overflow_add-count : goal.overflow_add-count
 overflow_add-count c =
-    omega (arith, next_few _ c.requires.board_marks (search rules) c.wide-count.ensures c.loop-i.invariant.0)
+    omega (arith, next_few _ c.requires.board_marks (search rules) c.from-count.ensures c.loop-i.invariant.0)
 
 pub loop-i-preserved : goal.loop-i-preserved
 loop-i-preserved c =
     let i = c.loop-i.invariant in
-    (counted_next _ c.requires.board_marks (search rules) c.wide-count.ensures i.0, filled_next _ _ _ (search rules) (rank_aim c.aim.ensures i.0) i.1)
+    (counted_next _ c.requires.board_marks (search rules) c.from-count.ensures i.0, filled_next _ _ _ (search rules) (rank_aim c.aim.ensures i.0) i.1)
 
 pub returns : goal.returns
 returns c = filled-end _ _ (search rules) c.loop-i.invariant.1

@@ -1,5 +1,4 @@
 -- `plainrecords::ranks::write_ranks` meets its contract: the aims are filled with the running count.
-use Prim.Native.Nat.{◌-◌}
 use lib.ListN.{length}
 use Rattle.laws.proofs.Filling.{Filled}
 use Rattle.ranking.specs.Ranks.{aim_in}
@@ -8,6 +7,3 @@ use Rattle.plainrecords.proofs.ranks.write_ranks.Given as goal
 
 abbrev pub invariant-loop-i : goal.invariant-loop-i
 invariant-loop-i l = Counted l.marks l.count l.i × Filled (aim_in l.marks) 0 (length l.marks) l.aims l.i
-
-abbrev pub decreases-loop-i : goal.decreases-loop-i
-decreases-loop-i l = length l.marks - l.i

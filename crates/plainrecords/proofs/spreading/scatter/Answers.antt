@@ -52,23 +52,23 @@ bounds-aims-r-in-loop-r c =
 
 pub offset_bounds-words-to : goal.offset_bounds-words-to
 offset_bounds-words-to c =
-    omega (arith, (to_inside c.requires (some_go c.loop-r.r c.loop-r.aims c.goes.ensures c.loop-r-test.true) c.loop-r.invariant c.place-to.ensures).words)
+    omega (arith, (to_inside c.requires (some_go c.loop-r.r c.loop-r.aims c.goes.ensures c.loop-r-test.true) c.loop-r.invariant c.from-to.ensures).words)
 
 pub bounds-words-to : goal.bounds-words-to
 bounds-words-to c =
-    simp length-set (to_inside c.requires (some_go c.loop-r.r c.loop-r.aims c.goes.ensures c.loop-r-test.true) c.loop-r.invariant c.place-to.ensures).words
+    simp length-set (to_inside c.requires (some_go c.loop-r.r c.loop-r.aims c.goes.ensures c.loop-r-test.true) c.loop-r.invariant c.from-to.ensures).words
 
 pub bounds-marks-to : goal.bounds-marks-to
 bounds-marks-to c =
-    simp length-set (to_inside c.requires (some_go c.loop-r.r c.loop-r.aims c.goes.ensures c.loop-r-test.true) c.loop-r.invariant c.place-to.ensures).marks
+    simp length-set (to_inside c.requires (some_go c.loop-r.r c.loop-r.aims c.goes.ensures c.loop-r-test.true) c.loop-r.invariant c.from-to.ensures).marks
 
 pub offset_bounds-aims-to : goal.offset_bounds-aims-to
 offset_bounds-aims-to c =
-    omega (arith, (to_inside c.requires (some_go c.loop-r.r c.loop-r.aims c.goes.ensures c.loop-r-test.true) c.loop-r.invariant c.place-to.ensures).aims)
+    omega (arith, (to_inside c.requires (some_go c.loop-r.r c.loop-r.aims c.goes.ensures c.loop-r-test.true) c.loop-r.invariant c.from-to.ensures).aims)
 
 pub bounds-aims-to : goal.bounds-aims-to
 bounds-aims-to c =
-    simp length-set (to_inside c.requires (some_go c.loop-r.r c.loop-r.aims c.goes.ensures c.loop-r-test.true) c.loop-r.invariant c.place-to.ensures).aims
+    simp length-set (to_inside c.requires (some_go c.loop-r.r c.loop-r.aims c.goes.ensures c.loop-r-test.true) c.loop-r.invariant c.from-to.ensures).aims
 
 pub loop-r-smaller : goal.loop-r-smaller
 loop-r-smaller c =
@@ -76,7 +76,7 @@ loop-r-smaller c =
 
 pub loop-r-preserved : goal.loop-r-preserved
 loop-r-preserved c =
-    spreading_next c.requires (some_go c.loop-r.r c.loop-r.aims c.goes.ensures c.loop-r-test.true) c.loop-r.invariant c.place-to.ensures
+    spreading_next c.requires (some_go c.loop-r.r c.loop-r.aims c.goes.ensures c.loop-r-test.true) c.loop-r.invariant c.from-to.ensures
 
 pub shape_of-words : goal.shape_of-words
 shape_of-words c = c.loop-r.invariant.words.long

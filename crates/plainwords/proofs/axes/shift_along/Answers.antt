@@ -4,12 +4,9 @@ use Rattle.plainwords.proofs.axes.shift_along.Goals as goal
 
 pub shift_blocks-requires : goal.shift_blocks-requires
 shift_blocks-requires c =
-    record {
-      whole_blocks = whole-blocks c.args.axis c.requires.fits_board c.stride_along-stride.ensures c.blocks_along-blocks.ensures;
-      names = names c.args.edge c.requires.near c.sources-from.ensures;
-    }
+    whole-blocks c.args.axis c.requires.fits_board (names c.args.edge c.requires.near c.sources-from.ensures) c.stride_along.ensures c.blocks_along.ensures
 
 pub returns : goal.returns
 returns c =
-    let laid = rw (c.stride_along-stride.ensures, c.blocks_along-blocks.ensures) at c.shift_blocks.ensures in
+    let laid = rw (c.stride_along.ensures, c.blocks_along.ensures) at c.shift_blocks.ensures in
     board_shifted c.args.axis c.requires.fits_board laid (named_is c.args.edge c.requires.near c.sources-from.ensures)

@@ -1,9 +1,10 @@
--- `plainwords::judging::judge_data_sum` meets its contract: the two cases in their order, and the counts of the list.
-use Rattle.std.proofs.Common.{[]}
-use Rattle.plainwords.proofs.Counts.{answered, data_sum_answer}
+-- `plainwords::judging::judge_data_sum` meets its contract: the side passed its check, so the counts fit.
+use Rattle.std.proofs.Common.{arith}
+use Rattle.plainwords.proofs.Counts.{side_passed}
 use Rattle.plainwords.proofs.judging.judge_data_sum.Goals as goal
 
-pub returns : goal.returns
-returns c =
-    let a = c.args in
-    answered a.side a.length [] c.refusing_lane.ensures (λ side n. data_sum_answer a.side c.accepted.ensures c.lengths.ensures side)
+pub overflow_sub-side : goal.overflow_sub-side
+overflow_sub-side c = (side_passed c.args.side c.check_side.ensures c.in_ok-check_side.was).least
+
+pub overflow_mul-side : goal.overflow_mul-side
+overflow_mul-side c = let side = side_passed c.args.side c.check_side.ensures c.in_ok-check_side.was in omega (arith, side)

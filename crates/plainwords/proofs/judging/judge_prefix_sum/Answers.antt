@@ -1,10 +1,9 @@
--- `plainwords::judging::judge_prefix_sum` meets its contract: the two cases in their order, and the counts of the list.
-use Rattle.std.proofs.Common.{[]}
-use Rattle.plainwords.proofs.Counts.{answered, prefix_sum_answer}
+-- `plainwords::judging::judge_prefix_sum` meets its contract: the side passed its check, so its list has both swaps.
+use Rattle.std.proofs.Common.{arith}
+use Rattle.plainwords.proofs.Counts.{listed}
 use Rattle.plainwords.proofs.judging.judge_prefix_sum.Goals as goal
 
-pub returns : goal.returns
-returns c =
-    let a = c.args in
-    answered a.side a.length [] c.refusing_lane.ensures
-    (λ side n. prefix_sum_answer a.side c.accepted.ensures c.over.ensures c.total_moves.ensures side)
+pub overflow_sub-total_moves : goal.overflow_sub-total_moves
+overflow_sub-total_moves c =
+    let total = listed c.args.side c.check_side.ensures c.in_ok-check_side.was c.total_moves.ensures in
+    omega (arith, total)

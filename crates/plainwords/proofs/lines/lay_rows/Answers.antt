@@ -1,48 +1,10 @@
 -- `plainwords::lines::lay_rows` meets its contract: row after row, each from where the table says.
 use Rattle.std.proofs.Common.{◌≡◌, refl, arith}
-use Rattle.plainwords.proofs.Rows.{rows_start, rows_next}
+use Rattle.plainwords.proofs.Rows.{rows_next}
 use Rattle.plainwords.proofs.lines.lay_rows.Goals as goal
 
-pub loop-p-init : goal.loop-p-init
-loop-p-init c = (omega arith, rows_start)
-
-pub offset_bounds-from-p : goal.offset_bounds-from-p
-offset_bounds-from-p c = omega (arith, c.requires.whole_rows.most, c.loop-p-test.true)
-
-pub bounds-from-p : goal.bounds-from-p
-bounds-from-p c = omega (arith, c.requires.whole_rows.most, c.loop-p-test.true)
-
-pub overflow_mul-q : goal.overflow_mul-q
-overflow_mul-q c = omega (arith, c.requires.names.few c.loop-p.p)
-
-pub overflow_mul-p : goal.overflow_mul-p
-overflow_mul-p c = omega (arith, c.requires.whole_rows.inside _ c.loop-p-test.true)
-
-pub overflow_add-first : goal.overflow_add-first
-overflow_add-first c = omega (arith, c.requires.whole_rows.inside _ c.loop-p-test.true)
-
-pub copy_eight-requires : goal.copy_eight-requires
-copy_eight-requires c =
-    record {
-      a_in_bounds = omega (arith, c.requires.names.few c.loop-p.p, c.requires.rows_len);
-      b_in_bounds = omega (arith, c.requires.whole_rows.inside _ c.loop-p-test.true, c.loop-p.invariant.1.size);
-    }
-
-pub overflow_add-p : goal.overflow_add-p
-overflow_add-p c = omega (arith, c.loop-p-test.true)
-
-pub loop-p-smaller : goal.loop-p-smaller
-loop-p-smaller c = omega (arith, c.loop-p-test.true)
-
 pub loop-p-preserved : goal.loop-p-preserved
-loop-p-preserved c =
-    (omega (arith, c.loop-p-test.true), rows_next c.requires.whole_rows.on refl (λ j u. refl) c.loop-p.invariant.1 c.copy_eight.ensures)
-
-pub shape_of-words : goal.shape_of-words
-shape_of-words c = c.loop-p.invariant.1.size
+loop-p-preserved c = rows_next c.requires.whole_rows.on refl (λ j u. refl) c.loop-p.invariant c.copy_eight.ensures
 
 pub returns : goal.returns
-returns c =
-    let l = c.loop-p in
-    let e : l.p ≡ c.args.side = omega (arith, c.loop-p-test.false, l.invariant.0) in
-    rw e at l.invariant.1
+returns c = let e : c.loop-p.p ≡ c.args.lines.side = omega arith in rw e at c.loop-p.invariant

@@ -2,13 +2,10 @@
 use Rattle.records.proofs.Performing.{performing}
 use Rattle.records.proofs.bodies.perform.Goals as goal
 
-pub returns : goal.returns
-returns c =
+pub returns-clause-performed : goal.returns-clause-performed
+returns-clause-performed c =
+    let kept = c.keep_marked.ensures in
+    let o = c.empty.ensures in
+    let ran = rw kept.marks at c.run.ensures.ran in
     performing c.args.trip c.args.side c.args.moves c.requires.side_value c.requires.long c.requires.moves_bound c.requires.good
-    c.keep_words.ensures
-    c.keep_aims.ensures
-    c.zero_words.ensures
-    c.zero_marks.ensures
-    c.zero_aims.ensures
-    c.runs_of.ensures
-    c.run.ensures
+    kept.words kept.aims o.words o.marks o.aims c.runs_of.ensures ran

@@ -1,16 +1,12 @@
--- `texts::read::bytes_before` meets its contract: byte after byte is passed until the one is found.
-use Rattle.texts.proofs.Reading.{sought_found, sought_next, sought_end}
+-- `texts::read::bytes_before` meets its contract: where the library finds the byte, or the length.
+use Rattle.std.proofs.Common.{rules, tests, ◌≡◌, ◌==◌, ◌∙◌, ap, length, position, unwrap_or, ℕ, Option}
+use Rattle.std.proofs.lemmas.Iterator.{YieldsList-from_slice}
+use Rattle.std.proofs.lemmas.Iterator.Search.{position_from_yields_List}
+use Rattle.texts.proofs.Reading.{before_found}
 use Rattle.texts.proofs.read.bytes_before.Goals as goal
 
-pub returns-then-s-i : goal.returns-then-s-i
-returns-then-s-i c =
-    let found = sought_found c.loop-i.invariant c.loop-i-test.true c.if-s-i.true in
-    record { value = found.0; upper_bound = found.1 }
-
-pub loop-i-preserved : goal.loop-i-preserved
-loop-i-preserved c = sought_next c.loop-i.invariant c.loop-i-test.true c.if-s-i.false
-
-pub returns : goal.returns
-returns c =
-    let past = sought_end c.loop-i.invariant c.loop-i-test.false in
-    record { value = past.0; upper_bound = past.1 }
+pub returns-clause-value : goal.returns-clause-value
+returns-clause-value c =
+    let found : c.position.result ≡ position (λ x. x == c.args.b) c.args.s.now =
+    position_from_yields_List (λ x. x == c.args.b) _ _ _ c.position.ensures.ran (YieldsList-from_slice c.args.s.now cc) (λ x r q k. search (rules, tests)) in
+    c.unwrap_or.ensures ∙ ap (λ (o : Option ℕ). unwrap_or o (length c.args.s.now)) found ∙ before_found c.args.b c.args.s.now

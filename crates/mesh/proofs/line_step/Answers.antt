@@ -1,8 +1,0 @@
-use borrow.Author.Tests.{eq-eqb, ne_eqb}
-use Rattle.mesh.proofs.line_step.Goals as goal
-
-pub returns-then-t-eq1 : goal.returns-then-t-eq1
-returns-then-t-eq1 c = rw (eq-eqb _ _ c.if-t-eq1.true)
-
-pub returns-else-t-eq1 : goal.returns-else-t-eq1
-returns-else-t-eq1 c = rw (ne_eqb _ _ c.if-t-eq1.false)

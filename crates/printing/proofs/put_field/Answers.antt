@@ -1,6 +1,0 @@
--- `printing::put_field` meets its contract: a number of 64 bits has at most twenty digits.
-use Rattle.printing.proofs.Digits.{field-written}
-use Rattle.printing.proofs.put_field.Goals as goal
-
-pub returns : goal.returns
-returns c = search field-written

@@ -1,7 +1,0 @@
--- `refusals::judging::aims_case` meets its contract: where the test of all aims passes none is wrong, and else the first is searched.
-use mathlib.Core.Path.{◌∙◌}
-use Rattle.refusals.proofs.Joined.{none_case}
-use Rattle.refusals.proofs.judging.aims_case.Goals as goal
-
-pub returns-then-all_good : goal.returns-then-all_good
-returns-then-all_good c = c.case_of.ensures ∙ none_case c.all_good.ensures c.if-all_good.true
