@@ -7,7 +7,7 @@ use Rattle.answers.specs.Answers.{Case}
 use Rattle.runs.specs.declared.Run.{Run}
 use Rattle.array.specs.Cells.{is_side, cells}
 use Rattle.runs.specs.Runs.{moves, electronic, swaps}
-use Rattle.answers.specs.Answers.{accepted, accepted_by, refusing, verdict, side_case, lane_case, log_case}
+use Rattle.answers.specs.Answers.{accepted, accepted_by, verdict, side_case, lane_case, log_case}
 
 -- no case of a table applies, and every case is a refusal
 abbrev pub NoneApplies : List Case → Type 0
@@ -35,14 +35,6 @@ pub accepted_is : (cs : List Case) (a : Answer) → NoneApplies cs → verdict c
 accepted_is [] a n = refl
 accepted_is (c ∷ cs) a n = rw n.0 (accepted_is cs a n.1)
 
--- a case before an answer, as the code works it out
-pub case_before : {c k : Case} {r x y : Answer} → r ≡ refusing k x → k ≡ c → x ≡ y → r ≡ refusing c y
-case_before e f g = e ∙ ap₂ refusing f g
-
--- the cases of the side and a lane before an answer
-pub lane_before : (s n : ℕ) {r x y : Answer} → r ≡ verdict (side_case s ∷ lane_case s n ∷ []) x → x ≡ y → r ≡ verdict (side_case s ∷ lane_case s n ∷ []) y
-lane_before s n e f = e ∙ ap (verdict (side_case s ∷ lane_case s n ∷ [])) f
-
 -- a table in two steps: the cases up to some point, and the rest where none of those applies
 module _ (cs rest : List Case) (a b : Answer) {early : Answer} (e : early ≡ verdict cs a) where
   pub at_once : a.number ≡ 0 → (early.number ≡ 0 → ⊥) → early ≡ verdict (cs ++ rest) b
@@ -60,9 +52,6 @@ module _ (cs rest : List Case) (a b : Answer) {early : Answer} (e : early ≡ ve
   module _ (all : all_refuse cs ≡ true) (h : early.number ≡ 0) where
     pub none_yet : NoneApplies cs
     none_yet = none_refuses cs a all e h
-
-    pub still_accepted : early ≡ a
-    still_accepted = e ∙ accepted_is cs a none_yet
 
     pub later : {r : Answer} → r ≡ verdict rest b → r ≡ verdict (cs ++ rest) b
     later f = f ∙ sym (passes cs none_yet)

@@ -94,22 +94,14 @@ impl From<Result<Moves, Refusal>> for Answer {
 pub fn check_side(side: usize) -> Result<(), Refusal>
     ensures { Judged (side_case side ∷ []) result }
 {
-    if is_side(side) {
-        Ok(())
-    } else {
-        Err(Refusal::Side)
-    }
+    is_side(side).then_some(()).ok_or(Refusal::Side)
 }
 
 // The length of a lane, where the side is one.
 pub fn check_lane(side: usize, length: usize) -> Result<(), Refusal>
     ensures { Judged (lane_case side length ∷ []) result }
 {
-    if is_cells(side, length) {
-        Ok(())
-    } else {
-        Err(Refusal::Lane)
-    }
+    is_cells(side, length).then_some(()).ok_or(Refusal::Lane)
 }
 
 // A log is too short where the list has a move that it does not reach.
@@ -125,11 +117,7 @@ pub fn check_log(runs: [Run; 9], length: usize) -> Result<(), Refusal>
 pub fn check_cell(side: usize, cell: usize) -> Result<(), Refusal>
     ensures { Judged (cell_case side cell ∷ []) result }
 {
-    if is_cell(side, cell) {
-        Ok(())
-    } else {
-        Err(Refusal::Argument)
-    }
+    is_cell(side, cell).then_some(()).ok_or(Refusal::Argument)
 }
 
 // The moves of a list, counted.

@@ -31,14 +31,18 @@ pub added_none : (t : Totals) (logged : Option LogLine) → logged ≡ None → 
 unfolding added_to
 added_none t logged e = rw e
 
-pub added_line : (t : Totals) (logged : Option LogLine) (l : LogLine) → logged ≡ Some l → {x y : ℕ} → x ≡ electronic_in l.step 1 → y ≡ swaps_in l.step 1
-    → record { electronic = (t.electronic + x) % 2 ^ 64; optical = (t.optical + y) % 2 ^ 64; moved = (t.moved + l.moved) % 2 ^ 64 } ≡ added_to t logged
+pub added_line : (t : Totals) (logged : Option LogLine) (l : LogLine) → logged ≡ Some l
+    → {x y z : ℕ} → x ≡ electronic_in l.step 1 → y ≡ swaps_in l.step 1 → z ≡ l.moved
+    → record { electronic = (t.electronic + x) % 2 ^ 64; optical = (t.optical + y) % 2 ^ 64; moved = (t.moved + z) % 2 ^ 64 } ≡ added_to t logged
 unfolding added_to
-added_line t logged l e p q = rw (e, p, q)
+added_line t logged l e p q r = rw (e, p, q, r)
 
-pub no_totals : (l : ℕ → Option LogLine) → record { electronic = 0; optical = 0; moved = 0 } ≡ totals_of l 0
+pub no_totals : (l : ℕ → Option LogLine) (t : Totals) → t.electronic ≡ 0 → t.optical ≡ 0 → t.moved ≡ 0 → t ≡ totals_of l 0
 unfolding totals_of column_sum
-no_totals l = refl
+no_totals l t = go t.electronic t.optical t.moved
+  where
+    go : (x y z : ℕ) → x ≡ 0 → y ≡ 0 → z ≡ 0 → record { electronic = x; optical = y; moved = z } ≡ totals_of l 0
+    go x y z e f g = rw (e, f, g)
 
 pub totals_more : (codes moved : List ℕ) (i : ℕ) {t u : Totals} → t ≡ totals_of (line_of codes moved) i
     → {logged : Option LogLine} → logged ≡ line_of codes moved i → u ≡ added_to t logged → u ≡ totals_of (line_of codes moved) (i + 1)

@@ -1,3 +1,4 @@
+pub mod SideBySide
 pub mod Lines
 pub mod Adding
 pub mod Room

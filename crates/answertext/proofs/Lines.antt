@@ -16,8 +16,9 @@ unfolding move_line
 no_move_put number logged {a} e = rw e (put_nothing a)
 
 pub move_put : (number : ℕ) (logged : Option LogLine) (l : LogLine) → logged ≡ Some l → {a b c d : Printer}
-    → Put (field number 9) a b → {text : List ℕ} → text ≡ step_text l.step → Put text b c → Put (field l.moved 10) c d → Put (move_line number logged) a d
-move_put number logged l e p f q s = rw (e, spelt) (put_then (put_then p (rw f at q)) s)
+    → Put (field number 9) a b → {text : List ℕ} → text ≡ step_text l.step → Put text b c
+    → {moved : ℕ} → moved ≡ l.moved → Put (field moved 10) c d → Put (move_line number logged) a d
+move_put number logged l e p f q g s = rw (e, spelt) (put_then (put_then p (rw f at q)) (rw g at s))
   where
     spelt : move_line number (Some l) ≡ (field number 9 ++ step_text l.step) ++ field l.moved 10
     spelt = unfold move_line line field step_text in simp append_assoc
@@ -47,16 +48,15 @@ unfolding record_row
 records_next words i p q = rows_next (record_row words) p q
 
 -- whole texts
-pub answer_put : (codes moved words : List ℕ) (n : ℕ) → n ≡ lines codes moved → {t : Totals} {a b c d e : Printer}
+pub answer_put : (codes moved words : List ℕ) {t : Totals} {a b c d e : Printer}
     → Put (bytes "move\tkind\tway\tmoved\n") a b
-    → Put (rows (move_row (line_of codes moved)) n) b c
-    → t ≡ totals_of (line_of codes moved) n
+    → Put (rows (move_row (line_of codes moved)) (lines codes moved)) b c
+    → t ≡ totals_of (line_of codes moved) (lines codes moved)
     → Put (all_line t) c d
     → Put (rows (record_row words) (length words)) d e
     → Put (answer_text codes moved words) a e
 unfolding log_text header line
-answer_put codes moved words n f p q s u v =
-    rw (← f) (put_then (put_then (put_then p q) (rw s at u)) v)
+answer_put codes moved words p q s u v = put_then (put_then (put_then p q) (rw s at u)) v
 
 pub refusal_put : (number place : ℕ) {a b c d : Printer} → Put (bytes "refused\t") a b → Put (field number 9) b c → Put (field place 10) c d
     → Put (refused_text number place) a d

@@ -5,7 +5,7 @@ ghost use Rattle.std.specs.Prelude.{◌≡◌, ◌≤◌, length};
 ghost use Rattle.printing.specs.Printed.{rows};
 ghost use Rattle.printing.specs.Buffers.{Written};
 ghost use Rattle.printing.specs.Printers.{Put};
-ghost use Rattle.answertext.specs.Log.{line_of, added_to, totals_of};
+ghost use Rattle.answertext.specs.Log.{lines, line_of, added_to, totals_of};
 ghost use Rattle.answertext.specs.Answers.{step_text, move_line, record_line, all_line, move_row, record_row, answer_text, refused_text};
 
 use array::moves::{LogLine, Move, Way, log_line};
@@ -13,7 +13,7 @@ use printing::Printer;
 use runs::{electronic_in, swaps_in};
 
 // What the lines of a log add up to.
-#[derive(Clone, Copy, Debug, PartialEq, Eq)]
+#[derive(Clone, Copy, Debug, Default, PartialEq, Eq)]
 pub struct Totals {
     pub electronic: usize,
     pub optical: usize,
@@ -43,7 +43,7 @@ fn put_move(printer: &mut Printer, number: usize, logged: Option<LogLine>)
     };
     printer.put_field(number, b'\t');
     printer.put(step_text(line.step));
-    printer.put_field(line.moved as usize, b'\n');
+    printer.put_field(usize::from(line.moved), b'\n');
 }
 
 fn put_record(printer: &mut Printer, cell: usize, word: u32)
@@ -72,69 +72,45 @@ fn added(totals: Totals, logged: Option<LogLine>) -> Totals
     Totals {
         electronic: totals.electronic.wrapping_add(electronic_in(line.step, 1)),
         optical: totals.optical.wrapping_add(swaps_in(line.step, 1)),
-        moved: totals.moved.wrapping_add(line.moved as usize),
+        moved: totals.moved.wrapping_add(usize::from(line.moved)),
     }
 }
 
-fn totals_of(codes: &[u8], moved: &[u16], n: usize) -> Totals
-    requires codes_reach { n ≤ length codes.now }
-    requires moved_reach { n ≤ length moved.now }
-    ensures { result ≡ totals_of (line_of codes.now moved.now) n }
+fn totals_of(codes: &[u8], moved: &[u16]) -> Totals
+    ensures { result ≡ totals_of (line_of codes.now moved.now) (lines codes.now moved.now) }
 {
-    let mut so_far = Totals {
-        electronic: 0,
-        optical: 0,
-        moved: 0,
-    };
-    for i in 0..n {
-        so_far = added(so_far, log_line(codes[i], moved[i]));
+    let mut so_far = Totals::default();
+    for (&code, &count) in codes.iter().zip(moved) {
+        so_far = added(so_far, log_line(code, count));
     }
     so_far
 }
 
-fn put_moves(printer: &mut Printer, codes: &[u8], moved: &[u16], n: usize)
-    requires codes_reach { n ≤ length codes.now }
-    requires moved_reach { n ≤ length moved.now }
-    ensures { Put (rows (move_row (line_of codes.now moved.now)) n) printer.old printer.new }
+fn put_moves(printer: &mut Printer, codes: &[u8], moved: &[u16])
+    ensures { Put (rows (move_row (line_of codes.now moved.now)) (lines codes.now moved.now)) printer.old printer.new }
 {
-    for i in 0..n {
-        put_move(printer, i + 1, log_line(codes[i], moved[i]));
+    for (i, (&code, &count)) in codes.iter().zip(moved).enumerate() {
+        put_move(printer, i + 1, log_line(code, count));
     }
 }
 
 fn put_records(printer: &mut Printer, words: &[u32])
     ensures { Put (rows (record_row words.now) (length words.now)) printer.old printer.new }
 {
-    for (cell, word) in words.iter().enumerate() {
-        put_record(printer, cell, *word);
+    for (cell, &word) in words.iter().enumerate() {
+        put_record(printer, cell, word);
     }
 }
 
 // The log's moves, what they add up to, and the records, whose words stand in the first cells.
-fn put_answer(printer: &mut Printer, codes: &[u8], moved: &[u16], words: &[u32])
-    ensures { Put (answer_text codes.now moved.now words.now) printer.old printer.new }
-{
-    let n = codes.len().min(moved.len());
-    printer.put(b"move\tkind\tway\tmoved\n");
-    put_moves(printer, codes, moved, n);
-    put_all(printer, totals_of(codes, moved, n));
-    put_records(printer, words);
-}
-
-fn put_refusal(printer: &mut Printer, number: usize, place: usize)
-    ensures { Put (refused_text number place) printer.old printer.new }
-{
-    printer.put(b"refused\t");
-    printer.put_field(number, b'\t');
-    printer.put_field(place, b'\n');
-}
-
-// The whole answer.
 pub fn answer(out: &mut [u8], codes: &[u8], moved: &[u16], words: &[u32]) -> usize
     ensures { Written out.old 0 (answer_text codes.now moved.now words.now) result out.new }
 {
     let mut printer = Printer::new(out);
-    put_answer(&mut printer, codes, moved, words);
+    printer.put(b"move\tkind\tway\tmoved\n");
+    put_moves(&mut printer, codes, moved);
+    put_all(&mut printer, totals_of(codes, moved));
+    put_records(&mut printer, words);
     printer.at
 }
 
@@ -143,6 +119,8 @@ pub fn refusal(out: &mut [u8], number: usize, place: usize) -> usize
     ensures { Written out.old 0 (refused_text number place) result out.new }
 {
     let mut printer = Printer::new(out);
-    put_refusal(&mut printer, number, place);
+    printer.put(b"refused\t");
+    printer.put_field(number, b'\t');
+    printer.put_field(place, b'\n');
     printer.at
 }

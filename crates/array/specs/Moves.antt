@@ -1,11 +1,32 @@
 -- The moves, their codes in a log, and runs of moves.
-use Rattle.std.specs.Prelude.{ℕ, ◌≡◌, [], ◌∷◌, Option, Result, slice_get, option_map, ok_or}
+use Rattle.std.specs.Prelude.{ℕ, ◌≡◌, Bool, true, false, cond, [], ◌∷◌, Option, Result, slice_get, option_map, ok_or}
 use Rattle.array.specs.declared.moves.Way.{Way}
 use Rattle.array.specs.declared.moves.Way.TheVariants.{Right, Left, Up, Down}
 use Rattle.array.specs.declared.moves.Move.{Move}
 use Rattle.array.specs.declared.moves.Move.TheVariants.{Swap, Electronic}
 use Rattle.array.specs.declared.moves.LogLine.{LogLine}
 use Rattle.array.specs.declared.moves.UnknownCode.{UnknownCode}
+
+-- whether a way goes along the rows of a group, and not its columns
+abbrev pub is_along_rows : Way → Bool
+is_along_rows Right = true
+is_along_rows Left = true
+is_along_rows Up = false
+is_along_rows Down = false
+
+-- whether it goes forth, to greater columns or rows
+abbrev pub is_forth : Way → Bool
+is_forth Right = true
+is_forth Left = false
+is_forth Up = false
+is_forth Down = true
+
+-- from one place of its line to the next in a group of side s, and from one line to the next
+abbrev pub stride_of : ℕ → Way → ℕ
+stride_of s w = cond (is_along_rows w) 1 s
+
+abbrev pub line_gap : ℕ → Way → ℕ
+line_gap s w = cond (is_along_rows w) s 1
 
 -- the code of a move in a log
 abbrev pub code_of : Move → ℕ

@@ -8,33 +8,22 @@ pub fn is_side(side: usize) -> bool
     1 <= side && side <= 8
 }
 
-// A board has n cells; no side above 65,535 has a number of cells that fits.
+// A board has n cells.
 pub fn is_cells(side: usize, n: usize) -> bool
     ensures { result ≡ eqb n (cells_of side) }
 {
-    if side > 65535 {
-        return false;
-    }
-    let groups = side * side;
-    n == groups * groups
+    side.checked_pow(4) == Some(n)
 }
 
 pub fn is_cell(side: usize, cell: usize) -> bool
     ensures { result ≡ is_cell side cell }
 {
-    if is_side(side) {
-        let groups = side * side;
-        return cell < groups * groups;
-    }
-    false
+    is_side(side) && cell < side.pow(4)
 }
 
 // A lane of n entries is one of a board.
 pub fn is_board(side: usize, n: usize) -> bool
     ensures { result ≡ is_board side n }
 {
-    if is_side(side) {
-        return is_cells(side, n);
-    }
-    false
+    is_side(side) && is_cells(side, n)
 }

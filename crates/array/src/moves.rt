@@ -1,6 +1,6 @@
 // The moves that the array can make, and their codes in a log.
 ghost use Rattle.std.specs.Prelude.{◌≡◌};
-ghost use Rattle.array.specs.Moves.{code_of, Decoded, logged_of, opposite as opposite_of};
+ghost use Rattle.array.specs.Moves.{code_of, Decoded, logged_of, opposite as opposite_of, is_along_rows, is_forth, stride_of, line_gap};
 
 #[derive(Clone, Copy, Debug, PartialEq, Eq)]
 pub enum Way {
@@ -8,6 +8,36 @@ pub enum Way {
     Left,
     Up,
     Down,
+}
+
+impl Way {
+    // Its lines are the rows of a group, and not the columns.
+    pub fn is_along_rows(self) -> bool
+        ensures { result ≡ is_along_rows self }
+    {
+        matches!(self, Way::Right | Way::Left)
+    }
+
+    // It goes to greater columns or rows.
+    pub fn is_forth(self) -> bool
+        ensures { result ≡ is_forth self }
+    {
+        matches!(self, Way::Right | Way::Down)
+    }
+
+    // From one place of a line to the next.
+    pub fn stride(self, side: usize) -> usize
+        ensures { result ≡ stride_of side self }
+    {
+        if self.is_along_rows() { 1 } else { side }
+    }
+
+    // From one line of a group to the next.
+    pub fn line_gap(self, side: usize) -> usize
+        ensures { result ≡ line_gap side self }
+    {
+        if self.is_along_rows() { side } else { 1 }
+    }
 }
 
 #[derive(Clone, Copy, Debug, PartialEq, Eq)]

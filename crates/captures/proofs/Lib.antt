@@ -3,6 +3,7 @@ pub mod Starting
 pub mod Telling
 pub mod Resolving
 pub mod Walking
+pub mod Numbered
 pub mod Judged
 pub mod Order
 pub mod Agreeing

@@ -1,26 +1,16 @@
 -- Records listed slot after slot and cell after cell.
 use Prim.Native.Nat.{ℕ, zero, suc, ◌+◌, ◌*◌, ◌≤◌, ◌<◌}
-use mathlib.Core.Path.{◌≡◌, refl, sym, ap, ◌∙◌}
-use mathlib.Core.Bool.{Bool, true, false, ◌&&◌}
-use mathlib.Core.List.{List, [], ◌∷◌, ◌++◌, append-nil}
+use mathlib.Core.Path.{◌≡◌, refl, ap, ◌∙◌}
+use mathlib.Core.Bool.{Bool, true, false}
+use mathlib.Core.List.{List, ◌++◌}
 use native.Mathlib.Omega.{arith}
 use native.Mathlib.Numerals.{add-one}
-use borrow.Author.Tests.{eq-eqb, ne_eqb}
 use lib.Dec.{eqb}
 use lib.ListN.{length, length-append}
-use Rattle.laws.proofs.Bools.{both_left, both_right}
 use Rattle.slots.specs.declared.Rec.{Rec}
 use Rattle.slots.specs.declared.Cell.{Cell}
 use Rattle.captures.specs.declared.Held.{Held}
-use Rattle.captures.specs.Captures.{held_of}
 use Rattle.captures.specs.Replays.{held_in, held_below}
-
--- a slot without a record, and one with it
-pub slot-empty : (cell slot : ℕ) (x : Rec) (r : List Held) → x.mark ≡ 0 → r ≡ r ++ held_in cell slot x
-slot-empty cell slot x r e = rw (eq-eqb x.mark 0 e) (sym (append-nil r))
-
-pub slot_held : (cell slot : ℕ) (x : Rec) → (x.mark ≡ 0 → ⊥) → held_in cell slot x ≡ held_of cell slot x.word x.aim ∷ []
-slot_held cell slot x e = rw (ne_eqb x.mark 0 e)
 
 -- a slot has at most one record, and n cells two each
 slot_few : (cell slot : ℕ) (x : Rec) → length (held_in cell slot x) ≤ 1
@@ -38,26 +28,12 @@ below_few T (suc n) =
     let spare = held_in n 1 (T n).spare in
     rw (length-append, length-append) (omega (arith, below_few T n, slot_few n 0 (T n).front, slot_few n 1 (T n).spare))
 
--- one cell more, and one that adds none
+-- one cell more
 pub below_next : (T : ℕ → Cell) (i : ℕ) {r r' : List Held} → r ≡ held_below T i
     → r' ≡ r ++ (held_in i 0 (T i).front ++ held_in i 1 (T i).spare) → r' ≡ held_below T (i + 1)
 unfolding held_below
 below_next T i z m = rw add-one (m ∙ ap (λ (l : List Held). l ++ (held_in i 0 (T i).front ++ held_in i 1 (T i).spare)) z)
 
-pub below_over : (T : ℕ → Cell) (i : ℕ) {r : List Held} → r ≡ held_below T i → (eqb (T i).front.mark 0 && eqb (T i).spare.mark 0) ≡ true
-    → r ≡ held_below T (i + 1)
-unfolding held_below
-below_over T i z none =
-    let f = both_left (eqb (T i).front.mark 0) _ none in
-    let g = both_right (eqb (T i).front.mark 0) _ none in
-    rw (add-one, f, g) (z ∙ sym (append-nil (held_below T i)))
-
 -- there is room for two more, where the board is no larger than that of side 3
 pub below_room : (T : ℕ → Cell) {n i : ℕ} {r : List Held} → n ≤ 81 → i < n → r ≡ held_below T i → length r ≤ 160
 below_room T {i = i} s h z = omega (arith, ap length z, below_few T i)
-
--- all n of them
-pub below_end : (T : ℕ → Cell) {n i : ℕ} {r : List Held} → i ≤ n → n ≤ i → r ≡ held_below T i → r ≡ held_below T n
-below_end T {n} {i} h g z =
-    let e : i ≡ n = omega arith in
-    z ∙ ap (held_below T) e

@@ -1,5 +1,5 @@
 -- A tally says all that is needed of the lines before it: behind a line, what the lines that follow come to is what they came to before it.
-use Rattle.std.specs.Prelude.{Option, Some, None}
+use Rattle.std.specs.Prelude.{Ok, Option, Some, None}
 use Rattle.std.specs.Option.{option_or}
 use Prim.Native.Nat.{ℕ, zero, suc}
 use mathlib.Core.Path.{◌≡◌, refl, sym, ap, ◌∙◌}
@@ -13,8 +13,8 @@ use lib.ListN.{length, drop}
 use Rattle.laws.proofs.Deciding.{apart}
 use Rattle.captures.specs.declared.Held.{Held}
 use Rattle.captures.specs.declared.walk.Tally.{Tally}
-use Rattle.captures.specs.Told.{Told}
-use Rattle.captures.specs.Told.{differs_at}
+use Rattle.captures.specs.declared.Replayed.{Replayed}
+use Rattle.captures.specs.declared.Replayed.TheVariants.{Differs}
 use Rattle.captures.specs.Captures.{CaptureVerdict, is_capture, no_capture, with_move, with_record}
 use Rattle.captures.specs.Replays.{code_at, same_held, same_records, records_after, compared}
 use Rattle.captures.specs.Inside.{expected_at, unless, following, behind_move, is_first, behind_record, end_of, resolved}
@@ -46,17 +46,17 @@ drop_one (x ∷ l) zero = refl
 drop_one (x ∷ l) (suc k) = drop_one l k
 
 -- one thing more that may differ, at a move
-one_thing : (d : Option ℕ) (made : ℕ) (f : Bool) (x : Told) → following (cond f x (differs_at made)) d ≡ following x (option_or d (unless f made))
+one_thing : (d : Option ℕ) (made : ℕ) (f : Bool) (x : Replayed) → following (cond f x (Differs made)) d ≡ following x (option_or d (unless f made))
 one_thing None made true x = refl
 one_thing None made false x = refl
 one_thing (Some d) made f x = refl
 
-and_cond : (u f : Bool) (x y : Told) → cond (u && f) x y ≡ cond u (cond f x y) y
+and_cond : (u f : Bool) (x y : Replayed) → cond (u && f) x y ≡ cond u (cond f x y) y
 and_cond true f x y = refl
 and_cond false f x y = refl
 
 -- records are the same where the first is, and those behind it are
-same_first : (h : Held) (hs l : List Held) (x y : Told) → cond (same_records (h ∷ hs) l) x y ≡ cond (is_first h l) (cond (same_records hs (behind l)) x y) y
+same_first : (h : Held) (hs l : List Held) (x y : Replayed) → cond (same_records (h ∷ hs) l) x y ≡ cond (is_first h l) (cond (same_records hs (behind l)) x y) y
 unfolding same_records behind
 same_first h hs [] x y = refl
 same_first h hs (q ∷ l) x y = and_cond (same_held h q) (same_records hs l) x y
@@ -68,7 +68,7 @@ module _ (s : ℕ) (w m a : List ℕ) (t : Tally) (r : List Held) (z : r ≡ exp
   left : same_records [] (drop t.seen L) ≡ leb (length r) t.seen
   left = none_left L t.seen ∙ ap (λ (l : List Held). leb (length l) t.seen) (sym z)
 
-  pub end-resolved : resolved s w m a t (is_capture [] []) ≡ end_of s t (length r)
+  pub end-resolved : resolved s w m a t (is_capture [] []) ≡ Ok (end_of s t (length r))
   unfolding resolved compared
   end-resolved = rw left
 
@@ -79,10 +79,10 @@ module _ (s : ℕ) (w m a : List ℕ) (t : Tally) (r : List Held) (z : r ≡ exp
       let n = suc t.made in
       let none = leb (length r) t.seen in
       let u = eqb c (code_at s n) in
-      let x = cond (same_records hs (records_after s w m a n)) (compared s w m a n ms) (differs_at n) in
+      let x = cond (same_records hs (records_after s w m a n)) (compared s w m a n ms) (Differs n) in
       let new : eqb n 0 ≡ false = ne_eqb n 0 (omega arith) in
       rw (left, new, and_cond)
-      (one_thing t.differs t.made none (cond u x (differs_at n)) ∙ one_thing (option_or t.differs (unless none t.made)) n u x)
+      (ap Ok (one_thing t.differs t.made none (cond u x (Differs n)) ∙ one_thing (option_or t.differs (unless none t.made)) n u x))
 
   pub record_resolved : (h : Held) (v : CaptureVerdict)
       → resolved s w m a t (with_record h v) ≡ resolved s w m a (behind_record t r h) v
@@ -90,6 +90,6 @@ module _ (s : ℕ) (w m a : List ℕ) (t : Tally) (r : List Held) (z : r ≡ exp
   record_resolved h (no_capture k) = refl
   record_resolved h (is_capture hs ms) =
       let l = drop t.seen L in
-      let x = cond (same_records hs (behind l)) (compared s w m a t.made ms) (differs_at t.made) in
+      let x = cond (same_records hs (behind l)) (compared s w m a t.made ms) (Differs t.made) in
       rw (z, drop_one L t.seen, same_first)
-      (one_thing t.differs t.made (is_first h l) x)
+      (ap Ok (one_thing t.differs t.made (is_first h l) x))

@@ -1,57 +1,38 @@
 -- What private functions' contracts cite; the public contracts are read without it.
-use Rattle.std.specs.Prelude.{Option, Some, None, ℕ, suc, ◌-◌, ◌≤◌, ◌≡◌, Bool, true, false, cond, List, [], ◌∷◌, eqb, leb, length, take, drop}
+use Rattle.std.specs.Prelude.{Result, Ok, Err, Option, Some, None, ℕ, suc, ◌-◌, ◌≡◌, Bool, false, cond, List, [], ◌∷◌, eqb, leb, length, take, drop}
 use Rattle.std.specs.Option.{option_or}
-use Rattle.array.specs.Cells.{is_side, cells}
 use Rattle.std.specs.List.{slice_get}
 use Rattle.runs.specs.Runs.{codes}
 use Rattle.lists.specs.Lists.{total_moves, concentrate_runs}
 use Rattle.texts.specs.declared.read.Numbers.{Numbers}
 use Rattle.texts.specs.declared.read.Numbers.TheVariants.{Two, Four}
-use Rattle.lists.specs.declared.Trip.TheVariants.{Concentrate}
-use Rattle.refusals.specs.Cases.{Good}
+use Rattle.answers.specs.declared.Refusal.{Refusal}
+use Rattle.answers.specs.declared.Refusal.TheVariants.{Capture}
 use Rattle.captures.specs.declared.Held.{Held}
-use Rattle.captures.specs.Told.{Told}
-use Rattle.captures.specs.Told.{all_agree, differs_at, ends_early, is_refused}
+use Rattle.captures.specs.declared.Replayed.{Replayed}
+use Rattle.captures.specs.declared.Replayed.TheVariants.{Agrees, Differs, Early}
 use Rattle.captures.specs.declared.walk.Tally.{Tally}
 use Rattle.captures.specs.Captures.{held_of, order_of, CaptureVerdict, is_capture, no_capture, in_turn, in_place}
 use Rattle.captures.specs.Replays.{records_after, code_at, same_held, same_records, compared}
-use Rattle.captures.specs.declared.state.Start.{Start}
+use Rattle.captures.specs.declared.start.Start.{Start}
 
--- lanes stand at the front of the arrays of a starting table
-pub record Loaded (words marks aims : List ℕ) (b : Start) : Type 0 where
-  pub words_are : take (length words) b.words ≡ words
-  pub marks_are : take (length marks) b.marks ≡ marks
-  pub aims_are : take (length aims) b.aims ≡ aims
-
--- a starting table that concentrate takes, of a side that captures have
-pub record Startable (s : ℕ) (words marks aims : List ℕ) : Type 0 where
-  pub side : is_side s ≡ true
-  pub small : s ≤ 3
-  pub words_long : length words ≡ cells s
-  pub marks_long : length marks ≡ cells s
-  pub aims_long : length aims ≡ cells s
-  pub good : Good Concentrate s marks aims
-
--- a side that captures have, and its cells
-pub record Small (s n : ℕ) : Type 0 where
-  pub side : is_side s ≡ true
-  pub small : s ≤ 3
-  pub size : n ≡ cells s
-
--- what stands at the front of the arrays is one
-abbrev pub Started : ℕ → Start → Type 0
-Started s b = Startable s (take (cells s) b.words) (take (cells s) b.marks) (take (cells s) b.aims)
+-- a starting table in its arrays is that of these lanes
+pub record Loaded (s : ℕ) (words marks aims : List ℕ) (b : Start) : Type 0 where
+  pub side_is : b.side ≡ s
+  pub words_are : take b.n b.words ≡ words
+  pub marks_are : take b.n b.marks ≡ marks
+  pub aims_are : take b.n b.aims ≡ aims
 
 -- the records after so many moves from there
-abbrev pub records_from : ℕ → Start → ℕ → List Held
-records_from s b made = records_after s (take (cells s) b.words) (take (cells s) b.marks) (take (cells s) b.aims) made
+abbrev pub records_from : Start → ℕ → List Held
+records_from b made = records_after b.side (take b.n b.words) (take b.n b.marks) (take b.n b.aims) made
 
 -- the records after so many moves that a capture should have; before the first move it has none
 abbrev pub expected_at : ℕ → List ℕ → List ℕ → List ℕ → ℕ → List Held
 expected_at s words marks aims made = cond (eqb made 0) [] (records_after s words marks aims made)
 
-abbrev pub expected_from : ℕ → Start → ℕ → List Held
-expected_from s b made = expected_at s (take (cells s) b.words) (take (cells s) b.marks) (take (cells s) b.aims) made
+abbrev pub expected_from : Start → ℕ → List Held
+expected_from b made = expected_at b.side (take b.n b.words) (take b.n b.marks) (take b.n b.aims) made
 
 -- the code of a move of the list, by its number from 1, where the list has it
 abbrev pub code_in : ℕ → ℕ → Option ℕ
@@ -62,9 +43,9 @@ abbrev pub unless : Bool → ℕ → Option ℕ
 unless holds number = cond holds None (Some number)
 
 -- what follows, where nothing differs; and else the move that does
-abbrev pub following : Told → Option ℕ → Told
+abbrev pub following : Replayed → Option ℕ → Replayed
 following x None = x
-following x (Some d) = differs_at d
+following x (Some d) = Differs d
 
 -- nothing was read yet
 abbrev pub no_tally : Tally
@@ -103,18 +84,19 @@ next_of s t r (Some (Four cell slot word aim)) =
 next_of s t r None = None
 
 -- what a tally comes to at the end of a capture
-abbrev pub end_of : ℕ → Tally → ℕ → Told
+abbrev pub end_of : ℕ → Tally → ℕ → Replayed
 end_of s t count =
-    following (cond (leb count t.seen) (cond (eqb t.made (total_moves s)) all_agree (ends_early t.made)) (differs_at t.made)) t.differs
+    following (cond (leb count t.seen) (cond (eqb t.made (total_moves s)) Agrees (Early t.made)) (Differs t.made)) t.differs
 
 -- and where lines follow it of which this is the verdict
-unfoldable pub resolved : ℕ → List ℕ → List ℕ → List ℕ → Tally → CaptureVerdict → Told
+unfoldable pub resolved : ℕ → List ℕ → List ℕ → List ℕ → Tally → CaptureVerdict → Result Replayed Refusal
 resolved s words marks aims t (is_capture hs ms) =
-    following
-    (cond (same_records hs (drop t.seen (expected_at s words marks aims t.made))) (compared s words marks aims t.made ms) (differs_at t.made))
-    t.differs
-resolved s words marks aims t (no_capture k) = is_refused 10 k
+    Ok
+    (following
+    (cond (same_records hs (drop t.seen (expected_at s words marks aims t.made))) (compared s words marks aims t.made ms) (Differs t.made))
+    t.differs)
+resolved s words marks aims t (no_capture k) = Err (Capture k)
 
 -- the same of a starting table in its arrays
-abbrev pub resolved_from : ℕ → Start → Tally → CaptureVerdict → Told
-resolved_from s b t v = resolved s (take (cells s) b.words) (take (cells s) b.marks) (take (cells s) b.aims) t v
+abbrev pub resolved_from : Start → Tally → CaptureVerdict → Result Replayed Refusal
+resolved_from b t v = resolved b.side (take b.n b.words) (take b.n b.marks) (take b.n b.aims) t v

@@ -1,4 +1,4 @@
 pub mod Captures
 pub mod Replays
 pub mod Inside
-pub mod Told
+pub mod Startable

@@ -1,5 +1,5 @@
 -- What a replay answers: the first move at which a capture leaves the rule, that it ends early, or that all agrees; or a refusal.
-use Rattle.std.specs.Prelude.{Result, ℕ, zero, suc, ◌-◌, List, [], ◌∷◌, ◌++◌, Bool, true, false, cond, ◌&&◌, length, get_or, eqb}
+use Rattle.std.specs.Prelude.{Result, Ok, Err, ℕ, zero, suc, ◌-◌, List, [], ◌∷◌, ◌++◌, Bool, true, false, cond, ◌&&◌, length, get_or, eqb}
 use Rattle.runs.specs.Runs.{codes}
 use Rattle.lists.specs.declared.Trip.TheVariants.{Concentrate}
 use Rattle.lists.specs.Lists.{total_moves, concentrate_runs}
@@ -8,16 +8,15 @@ use Rattle.slots.specs.declared.Rec.{Rec}
 use Rattle.slots.specs.declared.Cell.{Cell}
 use Rattle.course.specs.Showing.{content_of}
 use Rattle.records.specs.Records.{count_in, record_of, cell_of}
-use Rattle.answers.specs.declared.Answer.{Answer}
 use Rattle.answers.specs.Answers.{Case}
-use Rattle.answers.specs.Answers.{case_of, verdict, accepted, side_case, lane_case}
+use Rattle.answers.specs.Answers.{case_of, side_case, lane_case}
 use Rattle.marks.specs.Marks.{marks_case}
 use Rattle.refusals.specs.Cases.{aims_case}
 use Rattle.captures.specs.declared.Held.{Held}
 use Rattle.answers.specs.declared.Refusal.{Refusal}
+use Rattle.answers.specs.declared.Refusal.TheVariants.{Side, Lane, Mark, Aim, Capture}
 use Rattle.captures.specs.declared.Replayed.{Replayed}
-use Rattle.captures.specs.Told.{Told, untold}
-use Rattle.captures.specs.Told.{all_agree, differs_at, ends_early, is_refused}
+use Rattle.captures.specs.declared.Replayed.TheVariants.{Agrees, Differs, Early}
 use Rattle.captures.specs.Captures.{held_of, Captured, CaptureVerdict, is_capture, no_capture, capture_verdict}
 
 -- the record in a slot of a cell, where there is one
@@ -57,10 +56,10 @@ abbrev pub agrees_at : ℕ → List ℕ → List ℕ → List ℕ → ℕ → Ca
 agrees_at s words marks aims number m = eqb m.code (code_at s number) && same_records m.records (records_after s words marks aims number)
 
 -- the moves behind so many that agree, up to the first that does not; without one, a capture that does not have the whole list ends early
-unfoldable pub compared : ℕ → List ℕ → List ℕ → List ℕ → ℕ → List Captured → Told
-compared s words marks aims made [] = cond (eqb made (total_moves s)) all_agree (ends_early made)
+unfoldable pub compared : ℕ → List ℕ → List ℕ → List ℕ → ℕ → List Captured → Replayed
+compared s words marks aims made [] = cond (eqb made (total_moves s)) Agrees (Early made)
 compared s words marks aims made (m ∷ ms) =
-    cond (agrees_at s words marks aims (suc made) m) (compared s words marks aims (suc made) ms) (differs_at (suc made))
+    cond (agrees_at s words marks aims (suc made) m) (compared s words marks aims (suc made) ms) (Differs (suc made))
 
 -- 10: the capture, at its first bad line
 abbrev pub capture_case : CaptureVerdict → Case
@@ -81,17 +80,25 @@ abbrev pub moves_in : CaptureVerdict → List Captured
 moves_in (is_capture hs ms) = ms
 moves_in (no_capture k) = []
 
--- a refusal has its number and place; else it is the other
-abbrev pub unless_refused : Answer → Told → Told
-unless_refused a otherwise = cond (eqb a.number 0) otherwise (is_refused a.number a.place)
+-- the refusal of a case that applies, and else what follows
+abbrev pub unless_applies : Case → Refusal → Result Replayed Refusal → Result Replayed Refusal
+unless_applies c refusal otherwise = cond c.applies (Err refusal) otherwise
 
--- what a starting table and a verdict on a capture come to: the first case that applies, and else what comparing the moves gives
-unfoldable pub replay_by : ℕ → List ℕ → List ℕ → List ℕ → CaptureVerdict → Told
+-- a capture that is none is refused at its first bad line; else its moves are compared
+abbrev pub capture_by : ℕ → List ℕ → List ℕ → List ℕ → CaptureVerdict → Result Replayed Refusal
+capture_by s words marks aims (is_capture hs ms) = Ok (compared s words marks aims 0 ms)
+capture_by s words marks aims (no_capture k) = Err (Capture k)
+
+-- what a starting table and a verdict on a capture come to: the refusal of the first case that applies, and else what comparing the moves gives
+unfoldable pub replay_by : ℕ → List ℕ → List ℕ → List ℕ → CaptureVerdict → Result Replayed Refusal
 replay_by s words marks aims v =
-    unless_refused (verdict (replay_cases s words marks aims v) (accepted 0 0)) (compared s words marks aims 0 (moves_in v))
-
-abbrev pub replay_told : ℕ → List ℕ → List ℕ → List ℕ → List ℕ → Told
-replay_told s words marks aims capture = replay_by s words marks aims (capture_verdict s capture)
+    unless_applies (side_case s) Side
+    (unless_applies (lane_case s (length words)) Lane
+    (unless_applies (lane_case s (length marks)) Lane
+    (unless_applies (lane_case s (length aims)) Lane
+    (unless_applies (marks_case marks) (Mark (marks_case marks).place)
+    (unless_applies (aims_case Concentrate s marks aims) (Aim (aims_case Concentrate s marks aims).place)
+    (capture_by s words marks aims v))))))
 
 abbrev pub replay_of : ℕ → List ℕ → List ℕ → List ℕ → List ℕ → Result Replayed Refusal
-replay_of s words marks aims capture = untold (replay_told s words marks aims capture)
+replay_of s words marks aims capture = replay_by s words marks aims (capture_verdict s capture)

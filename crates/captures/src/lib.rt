@@ -1,13 +1,14 @@
 // Replaying a captured run of concentrate: the first move at which it leaves the rule.
 #![tactic(auto)]
 
+mod start;
 mod state;
 mod walk;
 
 ghost use Rattle.std.specs.Prelude.{◌≡◌};
 ghost use Rattle.captures.specs.Replays.{replay_of};
 
-use crate::state::load;
+use crate::start::Start;
 use crate::walk::walk;
 use answers::{Moves, Refusal};
 use lists::Trip;
@@ -61,5 +62,5 @@ pub fn replay(
     if capture.len() > 65536 || side > 3 {
         return Err(Refusal::Capture(0));
     }
-    walk(side, n, load(words, marks, aims), capture)
+    walk(&Start::load(side, words, marks, aims), capture)
 }

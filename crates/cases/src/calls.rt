@@ -1,5 +1,7 @@
 // Each stepping entry is called here and nowhere else; its run is printed: what is called, its answer, and what it leaves. The plain entry is run
 // behind it on the same lanes.
+ghost use Rattle.std.specs.Prelude.{◌≤◌};
+
 use crate::frames::{Frame, lane_cells};
 use crate::plainly::{plain_rank, plain_records, plain_words};
 use crate::show;
@@ -33,11 +35,23 @@ fn on_words(
     }
 }
 
-// A run of records, whole or up to a cut.
+// A run of records: whole, with logs of so many entries, or up to a cut, which has no logs.
 #[derive(Clone, Copy, Debug, PartialEq, Eq)]
 pub(crate) enum RecordsRun {
-    Whole(Trip),
+    Whole(Trip, usize),
     Cut(Trip, usize),
+}
+
+impl RecordsRun {
+    // How many entries of its logs are lent.
+    fn log(self) -> usize
+        ensures { result ≤ 4096 }
+    {
+        match self {
+            RecordsRun::Whole(_, log) => log.min(4096),
+            RecordsRun::Cut(..) => 0,
+        }
+    }
 }
 
 fn on_records(
@@ -48,25 +62,27 @@ fn on_records(
     moved: &mut [u16],
 ) -> Result<Moves, Refusal> {
     match run {
-        RecordsRun::Whole(Trip::Concentrate) => records::concentrate(side, lanes, codes, moved),
-        RecordsRun::Whole(Trip::Distribute) => records::distribute(side, lanes, codes, moved),
-        RecordsRun::Cut(Trip::Concentrate, cut) => records::concentrate_cut(side, cut, lanes),
-        RecordsRun::Cut(Trip::Distribute, cut) => records::distribute_cut(side, cut, lanes),
+        RecordsRun::Whole(trip, _) => records::run(trip, side, lanes, codes, moved),
+        RecordsRun::Cut(trip, cut) => records::run_cut(trip, side, cut, lanes),
     }
 }
 
-// A run on the lanes of a board, with spare lanes of 7s, and logs of 9s that are lent so far. A run up to a cut has no logs.
-fn step_records(rt: &impl Print, run: RecordsRun, side: usize, log: usize, frame: Frame) {
+// A run on the lanes of a frame, with spare lanes of 7s: its answer, and what it leaves.
+pub(crate) fn on_lanes<F: FnOnce(&mut LentLanes) -> Result<Moves, Refusal>>(
+    rt: &impl Print,
+    side: usize,
+    frame: Frame,
+    run: F,
+)
+    requires { (lanes : _) → F.pre run lanes }
+{
     let n = lane_cells(side);
-    let m = log.min(4096);
     let mut words = frame.words;
     let mut marks = frame.marks;
     let mut aims = frame.aims;
     let mut spare_words = [7u32; 4096];
     let mut spare_marks = [7u8; 4096];
     let mut spare_aims = [7u16; 4096];
-    let mut codes = [9u8; 4096];
-    let mut moved = [9u16; 4096];
     let mut front = LentSlots {
         words: &mut words[..n],
         marks: &mut marks[..n],
@@ -81,23 +97,32 @@ fn step_records(rt: &impl Print, run: RecordsRun, side: usize, log: usize, frame
         front: &mut front,
         spare: &mut spare,
     };
-    let outcome = on_records(run, side, &mut lanes, &mut codes[..m], &mut moved[..m]);
-    let _ = print!(rt; "{run}");
-    show::lent(rt, side, n, m);
-    show::answer(rt, outcome);
+    show::answer(rt, run(&mut lanes));
     show::slots(rt, &words[..n], &marks[..n], &aims[..n]);
     let _ = println!(rt; "spare");
     show::slots(rt, &spare_words[..n], &spare_marks[..n], &spare_aims[..n]);
-    if 0 < m {
+}
+
+// With logs of 9s.
+fn step_records(rt: &impl Print, run: RecordsRun, side: usize, frame: Frame) {
+    let m = run.log();
+    let mut codes = [9u8; 4096];
+    let mut moved = [9u16; 4096];
+    let _ = print!(rt; "{run}");
+    show::lent(rt, side, lane_cells(side), m);
+    on_lanes(rt, side, frame, |lanes| {
+        on_records(run, side, lanes, &mut codes[..m], &mut moved[..m])
+    });
+    if let RecordsRun::Whole(..) = run {
         show::line(rt, "codes", &codes[..m]);
         show::line(rt, "moved", &moved[..m]);
     }
 }
 
 // A run up to a cut has no plain form.
-pub(crate) fn records_run(rt: &impl Print, run: RecordsRun, side: usize, log: usize, frame: Frame) {
-    step_records(rt, run, side, log, frame);
-    if let RecordsRun::Whole(trip) = run {
+pub(crate) fn records_run(rt: &impl Print, run: RecordsRun, side: usize, frame: Frame) {
+    step_records(rt, run, side, frame);
+    if let RecordsRun::Whole(trip, _) = run {
         plain_records(rt, trip, side, frame);
     }
 }

@@ -45,7 +45,7 @@ impl fmt::Display for Operation {
 impl fmt::Display for RecordsRun {
     fn fmt<W: fmt::Write>(&self, f: &mut fmt::Formatter<W>) -> fmt::Result {
         match *self {
-            RecordsRun::Whole(trip) => f.write_str(trip_name(trip)),
+            RecordsRun::Whole(trip, _) => f.write_str(trip_name(trip)),
             RecordsRun::Cut(trip, cut) => {
                 let trip = trip_name(trip);
                 write!(f, "{trip} cut\t{cut}")

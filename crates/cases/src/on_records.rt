@@ -1,16 +1,14 @@
 // Rank, concentrate and distribute.
-ghost use Rattle.std.specs.Prelude.{◌≤◌};
-
 use crate::calls::{RecordsRun, rank_run, records_run};
 use crate::frames::{Frame, counting_up, gathered, marks_at, marks_of};
-use lists::Trip;
+use lists::{Trip, total_moves};
 
 const ALL_MARKED: [u8; 4096] = [1; 4096];
 
 // After move 1, and after all.
 fn both(rt: &impl Print, trip: Trip, side: usize, log: usize, frame: Frame) {
-    records_run(rt, RecordsRun::Cut(trip, 1), side, 0, frame);
-    records_run(rt, RecordsRun::Whole(trip), side, log, frame);
+    records_run(rt, RecordsRun::Cut(trip, 1), side, frame);
+    records_run(rt, RecordsRun::Whole(trip, log), side, frame);
 }
 
 fn concentrated(rt: &impl Print, side: usize, log: usize, words: [u32; 4096], marks: [u8; 4096]) {
@@ -55,15 +53,15 @@ pub(crate) fn starred(rt: &impl Print) {
 
 fn at_side(rt: &impl Print, side: usize, frame: Frame) {
     rank_run(rt, side, 51, &ALL_MARKED);
-    records_run(rt, RecordsRun::Whole(Trip::Concentrate), side, 51, frame);
-    records_run(rt, RecordsRun::Whole(Trip::Distribute), side, 51, frame);
-    records_run(rt, RecordsRun::Cut(Trip::Concentrate, 0), side, 0, frame);
-    records_run(rt, RecordsRun::Cut(Trip::Distribute, 0), side, 0, frame);
+    records_run(rt, RecordsRun::Whole(Trip::Concentrate, 51), side, frame);
+    records_run(rt, RecordsRun::Whole(Trip::Distribute, 51), side, frame);
+    records_run(rt, RecordsRun::Cut(Trip::Concentrate, 0), side, frame);
+    records_run(rt, RecordsRun::Cut(Trip::Distribute, 0), side, frame);
 }
 
 fn at_cut(rt: &impl Print, cut: usize, frame: Frame) {
-    records_run(rt, RecordsRun::Cut(Trip::Concentrate, cut), 8, 0, frame);
-    records_run(rt, RecordsRun::Cut(Trip::Distribute, cut), 8, 0, frame);
+    records_run(rt, RecordsRun::Cut(Trip::Concentrate, cut), 8, frame);
+    records_run(rt, RecordsRun::Cut(Trip::Distribute, cut), 8, frame);
 }
 
 // The sides and the cuts at the edge of what is accepted. All cells of side 8 are marked, each aimed at itself, which is its rank: concentrate
@@ -83,18 +81,14 @@ pub(crate) fn edges(rt: &impl Print) {
 }
 
 // After every cut, 0 to all.
-fn states(rt: &impl Print, trip: Trip, side: usize, frame: Frame)
-    requires { side ≤ 8 }
-{
-    for cut in 0..(7 * side).saturating_sub(4) {
-        records_run(rt, RecordsRun::Cut(trip, cut), side, 0, frame);
+fn states(rt: &impl Print, trip: Trip, side: usize, frame: Frame) {
+    for cut in 0..=total_moves(side) {
+        records_run(rt, RecordsRun::Cut(trip, cut), side, frame);
     }
 }
 
 // The states of concentrate, and of distribute back to the same cells.
-fn frame(rt: &impl Print, side: usize, kind: usize)
-    requires { (side ≤ 8) × (kind ≤ 64) }
-{
+fn frame(rt: &impl Print, side: usize, kind: u8) {
     let marks = marks_of(kind);
     let aims = rank_run(rt, side, 64, &marks);
     let words = counting_up(1000);
@@ -102,13 +96,20 @@ fn frame(rt: &impl Print, side: usize, kind: usize)
     states(rt, Trip::Distribute, side, gathered(side, 1000, &marks));
 }
 
+// Each a side and a kind of marks.
+const FRAMES: [(usize, u8); 8] = [
+    (1, 0),
+    (2, 0),
+    (2, 1),
+    (2, 2),
+    (3, 1),
+    (3, 4),
+    (4, 6),
+    (4, 30),
+];
+
 pub(crate) fn frames(rt: &impl Print) {
-    frame(rt, 1, 0);
-    frame(rt, 2, 0);
-    frame(rt, 2, 1);
-    frame(rt, 2, 2);
-    frame(rt, 3, 1);
-    frame(rt, 3, 4);
-    frame(rt, 4, 6);
-    frame(rt, 4, 30);
+    for (side, kind) in FRAMES {
+        frame(rt, side, kind);
+    }
 }

@@ -1,29 +1,22 @@
 // Lanes before the first move: an unmarked cell holds 0, and so does every cell of a spare lane.
 #![tactic(auto)]
 
-ghost use Rattle.std.specs.Prelude.{◌≡◌, cond, eqb};
+ghost use Rattle.std.specs.Prelude.{◌≡◌};
 ghost use Rattle.array.specs.Lent.{SameSlots};
 ghost use Rattle.clearing.specs.Cleared.{kept, kept_or, zeros};
 
 use array::lent::LentSlots;
 
-// What a cell of this mark keeps. It is stored in every cell, so that no branch hangs on the mark: on a crowded frame it would often be
-// guessed wrong.
-fn held<T: Copy>(mark: u8, own: T, empty: T) -> T
-    ensures { result ≡ cond (eqb mark 1) own empty }
-{
-    if mark == 1 { own } else { empty }
-}
-
-// Unmarked cells become empty. A lane that has not as many marks stays as it is.
-fn keep<T: Copy>(marks: &[u8], lane: &mut [T], empty: T)
+// Unmarked cells become empty. A lane that has not as many marks stays as it is. Every cell is written, so that no branch hangs on the mark:
+// on a crowded frame it would often be guessed wrong.
+pub fn keep<T: Copy>(marks: &[u8], lane: &mut [T], empty: T)
     ensures { lane.new ≡ kept_or empty marks.now lane.old }
 {
     if marks.len() != lane.len() {
         return;
     }
-    for i in 0..lane.len() {
-        lane[i] = held(marks[i], lane[i], empty);
+    for (i, own) in lane.iter_mut().enumerate() {
+        *own = if marks[i] == 1 { *own } else { empty };
     }
 }
 

@@ -17,7 +17,8 @@ use Rattle.lists.specs.declared.Trip.{Trip}
 use Rattle.slots.specs.declared.Rec.{Rec}
 use Rattle.mesh.specs.declared.Leg.{Leg}
 use Rattle.mesh.specs.Lines.{digit_of, wait_of, step_of, reach, head_of}
-use Rattle.mesh.specs.Mesh.{stride_of, line_rule_of}
+use Rattle.array.specs.Moves.{stride_of}
+use Rattle.mesh.specs.Mesh.{line_rule_of}
 use Rattle.mover.specs.Runs.{low_after, is_late, leg_of}
 use Rattle.course.proofs.Lines.{spot, on_line, at_cell, own_spot, spot<, spot-line, line-line, reach<, head<}
 

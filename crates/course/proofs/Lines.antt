@@ -14,7 +14,8 @@ use Rattle.array.specs.Cells.{groups, cells}
 use Rattle.slots.specs.declared.Rec.{Rec}
 use Rattle.mesh.specs.declared.Leg.{Leg}
 use Rattle.mesh.specs.Lines.{wait_of, step_of, reach, head_of, end_of}
-use Rattle.mesh.specs.Mesh.{stride_of, goes_up, goes_down, line_rule_of, spot_of, line_cell}
+use Rattle.array.specs.Moves.{stride_of}
+use Rattle.mesh.specs.Mesh.{goes_up, goes_down, line_rule_of, spot_of, line_cell}
 
 -- lines lie side by side in blocks, a stride of them in each: so many blocks are the board
 abbrev blocks : ℕ → Way → ℕ

@@ -1,6 +1,6 @@
 -- JobLanes of a board with good marks: rank accepts them, concentrate accepts what rank leaves, and its logs and words are those of the marked cells.
 use Prim.Native.Nat.{ℕ, ◌≤◌, ◌<◌}
-use mathlib.Core.Path.{◌≡◌, refl, ap, ◌∙◌}
+use mathlib.Core.Path.{◌≡◌, ap, ◌∙◌}
 use mathlib.Core.Bool.{true}
 use mathlib.Core.List.{List, []}
 use native.Mathlib.Omega.{arith}
@@ -8,12 +8,13 @@ use borrow.Author.Tests.{eq-eqb}
 use lib.ListN.{length, get_or, take, length-append, length-drop}
 use lib.Seq.{take_at}
 use Rattle.laws.proofs.Tables.{entry_at, length-entries}
-use Rattle.std.specs.Prelude.{Result, Ok, Err, IsOk}
+use Rattle.std.specs.Prelude.{Result, IsOk}
 use Rattle.answers.specs.declared.Answer.{Answer}
 use Rattle.answers.specs.declared.Moves.{Moves}
 use Rattle.answers.specs.declared.Refusal.{Refusal}
-use Rattle.answers.proofs.Judging.{refuses}
+use Rattle.answers.proofs.Judging.{accepted_ok}
 use Rattle.array.specs.Cells.{is_side, cells}
+use Rattle.array.specs.declared.lent.LentSlots.{LentSlots}
 use Rattle.runs.specs.Runs.{codes as codes_of}
 use Rattle.lists.specs.declared.Trip.TheVariants.{Concentrate}
 use Rattle.lists.specs.Lists.{total_moves, concentrate_runs, prefix_sum_runs}
@@ -65,13 +66,26 @@ module _ (s : ℕ) (side : is_side s ≡ true) (marks : List ℕ) (long : length
         aims2 = z.aims2;
       }
 
--- what is not refused is accepted
-accepted_ok : (r : Result Moves Refusal) → (answer_of r).number ≡ 0 → IsOk r
-accepted_ok (Ok n) h = refl
-accepted_ok (Err e) h = absurd (refuses e h)
-
 -- a whole run of concentrate behind rank
-module _ {s : ℕ} {w m a w₂ m₂ a₂ codes moved : List ℕ} (b : JobBoard s w m a w₂ m₂ a₂ codes moved) where
+module _ {s : ℕ} {front spare : LentSlots} (b : JobBoard s front spare) where
+  abbrev w : List ℕ
+  w = front.words.now
+
+  abbrev m : List ℕ
+  m = front.marks.now
+
+  abbrev a : List ℕ
+  a = front.aims.now
+
+  abbrev w₂ : List ℕ
+  w₂ = spare.words.now
+
+  abbrev m₂ : List ℕ
+  m₂ = spare.marks.now
+
+  abbrev a₂ : List ℕ
+  a₂ = spare.aims.now
+
   long : length m ≡ cells s
   long = b.sized.marks
 
@@ -88,10 +102,11 @@ module _ {s : ℕ} {w m a w₂ m₂ a₂ codes moved : List ℕ} (b : JobBoard s
   log_long : (numbers log : List ℕ) → length numbers ≤ length log → length (in_front numbers log) ≡ length log
   log_long numbers log h = rw (length-append, length-drop) (omega arith)
 
-  module _ (r₁ : Result Moves Refusal) {a' codes' : List ℕ} {K₁ : Type 0}
-      (z₁ : Entry (rank_cases s m (length a) (length codes)) (prefix_sum_runs s) (a' ≡ ranks s m) (codes' ≡ in_front (codes_of (prefix_sum_runs s)) codes) K₁ (answer_of r₁)) where
+  module _ (r₁ : Result Moves Refusal) (codes : List ℕ) {a' codes' : List ℕ} {K₁ : Type 0}
+      (z₁ : Entry (rank_cases s m (length a) (length codes)) (prefix_sum_runs s) (a' ≡ ranks s m) (codes' ≡ in_front (codes_of (prefix_sum_runs s)) codes) K₁ (answer_of r₁))
+      (codes_room : length codes ≡ 51) where
     ranked : (answer_of r₁).number ≡ 0
-    ranked = rank-takes marks_good (length a) (length codes) b.sized.aims (omega (arith, b.codes_room)) z₁.answer
+    ranked = rank-takes marks_good (length a) (length codes) b.sized.aims (omega (arith, codes_room)) z₁.answer
 
     -- rank accepts
     pub rank_accepted : IsOk r₁
@@ -99,18 +114,19 @@ module _ {s : ℕ} {w m a w₂ m₂ a₂ codes moved : List ℕ} (b : JobBoard s
 
     codes_long : length codes' ≡ 51
     codes_long =
-        let room : length (codes_of (prefix_sum_runs s)) ≤ length codes = omega (arith, codes-length (prefix_sum_runs s), prefix_sum-length s, few, b.codes_room) in
-        ap length (z₁.logs ranked) ∙ log_long (codes_of (prefix_sum_runs s)) codes room ∙ b.codes_room
+        let room : length (codes_of (prefix_sum_runs s)) ≤ length codes = omega (arith, codes-length (prefix_sum_runs s), prefix_sum-length s, few, codes_room) in
+        ap length (z₁.logs ranked) ∙ log_long (codes_of (prefix_sum_runs s)) codes room ∙ codes_room
 
-    module _ (r₂ : Result Moves Refusal) {codes'' moved'' : List ℕ} {T : ℕ → Cell} {K₂ : Type 0}
+    module _ (r₂ : Result Moves Refusal) (moved : List ℕ) {codes'' moved'' : List ℕ} {T : ℕ → Cell} {K₂ : Type 0}
         (z₂ : Entry (full_cases Concentrate s (sizes_of w w₂ m₂ a₂) m a' (length codes') (length moved)) (concentrate_runs s) (Stood Concentrate s (total_moves s) w m a' T)
-        ((codes'' ≡ in_front (codes_of (concentrate_runs s)) codes') × (moved'' ≡ in_front (moved_counts Concentrate s (total_moves s) m a') moved)) K₂ (answer_of r₂)) where
+        ((codes'' ≡ in_front (codes_of (concentrate_runs s)) codes') × (moved'' ≡ in_front (moved_counts Concentrate s (total_moves s) m a') moved)) K₂ (answer_of r₂))
+        (moved_room : length moved ≡ 51) where
       taken : (answer_of r₂).number ≡ 0
       taken =
           let end = accepted_by (concentrate_runs s) in
           let z = rw (z₁.lanes ranked) at z₂ in
           ap (λ (x : Answer). x.number)
-          (z.answer ∙ concentrate_accepts s b.side m long b.marked w a w₂ m₂ a₂ (length codes') (length moved) end b.sized (omega (arith, codes_long)) (omega (arith, b.moved_room)))
+          (z.answer ∙ concentrate_accepts s b.side m long b.marked w a w₂ m₂ a₂ (length codes') (length moved) end b.sized (omega (arith, codes_long)) (omega (arith, moved_room)))
 
       -- and so does concentrate
       pub concentrate_accepted : IsOk r₂

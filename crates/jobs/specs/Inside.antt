@@ -2,6 +2,7 @@
 use Rattle.std.specs.Prelude.{ℕ, ◌≤◌, ◌<◌, ◌≡◌, true, List, [], length, get_or, take}
 use Rattle.laws.specs.Tables.{entries}
 use Rattle.array.specs.Cells.{is_side, cells}
+use Rattle.array.specs.declared.lent.LentSlots.{LentSlots}
 use Rattle.runs.specs.Runs.{codes as codes_of}
 use Rattle.lists.specs.declared.Trip.TheVariants.{Concentrate}
 use Rattle.lists.specs.Lists.{total_moves, concentrate_runs}
@@ -9,13 +10,11 @@ use Rattle.slots.specs.Cells.{Sized}
 use Rattle.records.specs.Records.{marked_cell, count_in, moved_counts}
 use Rattle.answertext.specs.Answers.{answer_text}
 
--- six lanes of a board, with marks that are marks, and logs that are long enough for every side
-pub record JobBoard (s : ℕ) (w m a w₂ m₂ a₂ codes moved : List ℕ) : Type 0 where
+-- six lanes of a board, with marks that are marks
+pub record JobBoard (s : ℕ) (front spare : LentSlots) : Type 0 where
   pub side : is_side s ≡ true
-  pub sized : Sized (cells s) w m a w₂ m₂ a₂
-  pub marked : (k : ℕ) → k < length m → get_or m k 0 < 2
-  pub codes_room : length codes ≡ 51
-  pub moved_room : length moved ≡ 51
+  pub sized : Sized (cells s) front.words.now front.marks.now front.aims.now spare.words.now spare.marks.now spare.aims.now
+  pub marked : (k : ℕ) → k < length front.marks.now → get_or front.marks.now k 0 < 2
 
 -- lanes that were ranked and concentrated: the logs of concentrate, and the word of the marked cell of rank r in cell r
 pub record Settled (s : ℕ) (w m w' codes' moved' : List ℕ) : Type 0 where

@@ -3,6 +3,7 @@
 
 ghost use Rattle.std.specs.Prelude.{◌≡◌, true, ℕ, ◌<◌, ◌≤◌, length, get_or};
 ghost use Rattle.array.specs.Cells.{is_side, cells};
+ghost use Rattle.array.specs.Lent.{SameSlots};
 ghost use Rattle.printing.specs.Buffers.{OutFilled};
 ghost use Rattle.jobtext.specs.Verdicts.{text_verdict};
 ghost use Rattle.jobs.specs.Outputs.{output_of};
@@ -12,15 +13,20 @@ ghost use Rattle.jobs.specs.Inside.{JobBoard, Settled, JobLanes, lanes_text};
 use answertext::{answer, refusal};
 use array::lent::{LentLanes, LentSlots};
 use jobtext::{Job, read};
-use lists::total_moves;
+use lists::{Trip, total_moves};
 use ranking::rank;
-use records::concentrate;
 
 // The answer to a job, of what concentrate left in the logs and in the words.
-fn print(out: &mut [u8; 196608], job: Job, codes: &[u8], moved: &[u16], words: &[u32]) -> usize
+fn print(
+    out: &mut [u8; 196608],
+    job: Job,
+    codes: &[u8; 51],
+    moved: &[u16; 51],
+    words: &[u32],
+) -> usize
     requires side_value { is_side job.side ≡ true }
     requires marked_bound { job.marked ≤ 4096 }
-    requires lent_long { (length codes.now ≡ 51) × (length moved.now ≡ 51) × (job.marked ≤ length words.now) }
+    requires words_long { job.marked ≤ length words.now }
     ensures { OutFilled out.old (printed_of job.side job.marked codes.now moved.now words.now) result out.new }
 {
     let moves = total_moves(job.side);
@@ -30,23 +36,19 @@ fn print(out: &mut [u8; 196608], job: Job, codes: &[u8], moved: &[u16], words: &
 // Every marked cell's record goes to the cell of its rank.
 fn settle(
     side: usize,
-    words: &mut [u32],
-    marks: &mut [u8],
-    aims: &mut [u16],
+    front: &mut LentSlots,
     spare: &mut LentSlots,
-    codes: &mut [u8],
-    moved: &mut [u16],
+    codes: &mut [u8; 51],
+    moved: &mut [u16; 51],
 )
-    requires { JobBoard side words.old marks.old aims.old spare.old.words.now spare.old.marks.now spare.old.aims.now codes.old moved.old }
-    ensures { Settled side words.old marks.old words.new codes.new moved.new }
+    requires { JobBoard side front.old spare.old }
+    ensures same { SameSlots front.old front.new }
+    ensures settled { Settled side front.old.words.now front.old.marks.now front.new.words.now codes.new moved.new }
 {
-    rank(side, marks, aims, codes).unwrap();
-    let mut front = LentSlots { words, marks, aims };
-    let mut lanes = LentLanes {
-        front: &mut front,
-        spare,
-    };
-    concentrate(side, &mut lanes, codes, moved).unwrap();
+    let marks = &mut *front.marks;
+    rank(side, marks, front.aims, codes).unwrap();
+    let mut lanes = LentLanes { front, spare };
+    records::run(Trip::Concentrate, side, &mut lanes, codes, moved).unwrap();
 }
 
 // The same with aims and spare lanes of its own.
@@ -54,13 +56,12 @@ fn settle_lanes(
     side: usize,
     words: &mut [u32],
     marks: &mut [u8],
-    codes: &mut [u8],
-    moved: &mut [u16],
+    codes: &mut [u8; 51],
+    moved: &mut [u16; 51],
 )
     requires side_value { is_side side ≡ true }
     requires lanes_long { (length words.old ≡ cells side) × (length marks.old ≡ cells side) }
     requires good_marks { (k : ℕ) → k < length marks.old → get_or marks.old k 0 < 2 }
-    requires logs_long { (length codes.old ≡ 51) × (length moved.old ≡ 51) }
     ensures { Settled side words.old marks.old words.new codes.new moved.new }
 {
     let n = words.len();
@@ -68,12 +69,17 @@ fn settle_lanes(
     let mut spare_words = [0; 4096];
     let mut spare_marks = [0; 4096];
     let mut spare_aims = [0; 4096];
+    let mut front = LentSlots {
+        words,
+        marks,
+        aims: &mut aims[..n],
+    };
     let mut spare = LentSlots {
         words: &mut spare_words[..n],
         marks: &mut spare_marks[..n],
         aims: &mut spare_aims[..n],
     };
-    settle(side, words, marks, &mut aims[..n], &mut spare, codes, moved);
+    settle(side, &mut front, &mut spare, codes, moved);
 }
 
 // Ranks and concentrates the lanes of a job, and puts its answer.
@@ -93,11 +99,10 @@ pub fn run(text: &[u8], out: &mut [u8; 196608]) -> usize
 {
     let mut words = [0; 4096];
     let mut marks = [0; 4096];
-    let outcome = read(text, &mut words, &mut marks);
-    let Ok(job) = outcome else {
-        let refused = outcome.unwrap_err();
-        return refusal(out, refused.number(), refused.place());
+    let job = match read(text, &mut words, &mut marks) {
+        Ok(job) => job,
+        Err(refused) => return refusal(out, refused.number(), refused.place()),
     };
-    let cells = job.side * job.side * (job.side * job.side);
+    let cells = job.side.pow(4);
     solve(out, job, &mut words[..cells], &mut marks[..cells])
 }

@@ -9,7 +9,7 @@ use Rattle.jobtext.specs.declared.Job.{Job}
 use Rattle.jobtext.specs.declared.CellWord.{CellWord}
 use Rattle.jobtext.specs.Verdicts.{TextVerdict, text_verdict}
 use Rattle.jobtext.specs.Lanes.{with_cells, lane_of, job_of, JobRead}
-use Rattle.jobtext.proofs.Cells.{square_fits, cells_fit}
+use Rattle.jobtext.proofs.Cells.{cells_fit}
 use Rattle.jobtext.proofs.Accepted.{Rising, Known, known, cell_value, table}
 
 -- a whole lane of a job
@@ -115,9 +115,6 @@ module _ {w₀ w m₀ m : List ℕ} {r : Result Job Refusal} where
 
       small : j.side ≤ 8
       small = (side_known j.side side).most
-
-      pub ready_square : Fits w64 (j.side * j.side)
-      ready_square = square_fits j.side small
 
       pub ready_cells : Fits w64 (j.side * j.side * (j.side * j.side))
       ready_cells = cells_fit j.side small

@@ -20,9 +20,6 @@ square s h = square_grows h
 pub cells_few : (s : ℕ) → s ≤ 8 → cells s ≤ 4096
 cells_few s h = fourth_grows h
 
-pub square_fits : (s : ℕ) → s ≤ 8 → Fits w64 (s * s)
-square_fits s h = record { fits = omega (arith, square s h) }
-
 pub cells_fit : (s : ℕ) → s ≤ 8 → Fits w64 (s * s * (s * s))
 cells_fit s h = record { fits = omega (arith, cells_few s h) }
 
@@ -108,23 +105,24 @@ module _ {text : List ℕ} {side : ℕ} {words₀ marks₀ words marks rest : Li
   unfolding cells_from
   cells_unended h u f = refuse (rw (lines_unended rest u (omega arith))) f
 
+  module _ (line : List ℕ) (c : CellWord) (m : Some c ≡ mark_line next (cells side) line) where
+    in_turn : (next ≤ c.index) × (c.index < cells side)
+    in_turn = mark_in_order next (cells side) line c (sym m)
+
+    pub cell_inside : c.index < 4096
+    cell_inside = omega (arith, in_turn)
+
   module _ {line behind : List ℕ} (p : Parted lf rest line behind) where
     pub cells_malformed : {r : Result Job Refusal} → None ≡ mark_line next (cells side) line → r ≡ Err (refusal.Job (marked + 2))
         → Done text side words₀ marks₀ words marks r
     cells_malformed m f = refuse (rw (lines_parted rest line behind p) (by_malformed side next (marked + 2) line (lines_of behind) (sym m))) f
 
     module _ (c : CellWord) (m : Some c ≡ mark_line next (cells side) line) where
-      in_turn : (next ≤ c.index) × (c.index < cells side)
-      in_turn = mark_in_order next (cells side) line c (sym m)
-
-      pub cell_inside : c.index < 4096
-      cell_inside = omega (arith, in_turn)
-
       pub cells_next : Cells text side words₀ marks₀ (set words c.index c.word) (set marks c.index 1) behind (c.index + 1) (marked + 1)
       cells_next = record {
         room = k.room;
-        low = omega (arith, in_turn);
-        few = omega (arith, in_turn);
+        low = omega (arith, in_turn line c m);
+        few = omega (arith, in_turn line c m);
         job = sym (job_also marked c (unread side behind (c.index + 1) (marked + 1))) ∙ rw step at k.job;
         words_laid = λ exit w. k.words_laid exit (rw step (with_cells-also (λ e. e.word) c (unread side behind (c.index + 1) (marked + 1)) words exit w));
         marks_laid = λ exit w. k.marks_laid exit (rw step (with_cells-also (λ e. 1) c (unread side behind (c.index + 1) (marked + 1)) marks exit w));

@@ -1,13 +1,18 @@
 -- The first line and a later one, by their two fields.
-use Rattle.std.proofs.Common.{◌≡◌, ℕ, suc, ◌≤◌, ◌<◌, Bool, true, false, cond, not, ◌&&◌, List, [], Option, Some, None, Result, Err, ok_or, length, refl, sym, leb, ltb, arith, drop_of_length-le}
+use Rattle.std.proofs.Common.{◌≡◌, ℕ, suc, ◌≤◌, ◌<◌, Bool, true, false, cond, not, ◌&&◌, List, [], Option, Some, None, length, refl, sym, ◌∙◌, leb, ltb, arith, drop_of_length-le}
+use Rattle.std.specs.Bool.{then_some}
+use Rattle.std.specs.Ordering.{is_le, is_lt, nat_cmp}
 use Rattle.std.specs.Str.{bytes_eq}
-use Rattle.answers.specs.declared.Refusal.{Refusal}
-use borrow.Author.Tests.{le-leb, lt-leb, lt-ltb, le-ltb, leb-true, ltb-true}
+use Rattle.std.proofs.lemmas.Bool.Decides.{nat_tests}
+use borrow.Author.Tests.{leb-true, ltb-true}
 use Rattle.texts.specs.Bytes.{bytes, tab}
 use Rattle.texts.specs.Lines.{bytes_before, Parted, first_field, second_field}
 use Rattle.texts.specs.Numbers.{number_of}
 use Rattle.jobtext.specs.declared.CellWord.{CellWord}
 use Rattle.jobtext.specs.Verdicts.{side_if, side_of, pair, in_order, mark_line}
+
+in_range : (next i end : ℕ) → (is_le (nat_cmp next i) && is_lt (nat_cmp i end)) ≡ (leb next i && ltb i end)
+in_range next i end = grind (arith, nat_tests)
 
 -- a line without a tab has an empty second field, which writes no number
 module _ (line : List ℕ) (e : bytes_before tab line ≡ length line) where
@@ -71,14 +76,13 @@ module _ {line first second : List ℕ} (p : Parted tab line first second) where
         ordered : cond (leb next i && ltb i end) (Some (record { index = i; word = w })) None ≡ mark_line next end line
         ordered = rw (← e, ← f) at marked
 
-        pub mark_low : i < next → None ≡ mark_line next end line
-        mark_low l = rw (lt-leb next i l) at ordered
-
-        pub mark_high : next ≤ i → end ≤ i → None ≡ mark_line next end line
-        mark_high l u = rw (le-leb next i l, le-ltb i end u) at ordered
-
-        pub mark_cell : next ≤ i → i < end → Some (record { index = i; word = w }) ≡ mark_line next end line
-        mark_cell l u = rw (le-leb next i l, lt-ltb i end u) at ordered
+        pub mark_ordered : {inside : Bool} → inside ≡ (is_le (nat_cmp next i) && is_lt (nat_cmp i end))
+            → then_some inside (record { index = i; word = w }) ≡ mark_line next end line
+        mark_ordered {inside} g = either _ inside ∙ rw (g, in_range next i end) ordered
+          where
+            either : {T : Type 0} (x : T) (t : Bool) → then_some t x ≡ cond t (Some x) None
+            either x true = refl
+            either x false = refl
 
 -- the cell of a line is in order
 pub mark_in_order : (next end : ℕ) (line : List ℕ) (c : CellWord) → mark_line next end line ≡ Some c → (next ≤ c.index) × (c.index < end)
@@ -93,11 +97,3 @@ mark_in_order next end line c e = go (pair (number_of (first_field line)) (numbe
         by true true a b r = let x : d ≡ c = cc in rw (← x) (leb-true next d.index a, ltb-true d.index end b)
         by true false a b r = cc
         by false t a b r = cc
-
--- what a `?` behind `ok_or` returns
-pub none_refused : {T U : Type 0} {o : Option T} {x y z : Refusal} {r : Result U Refusal} → r ≡ Err z → z ≡ y
-    → ◌≡◌ {A = Result T Refusal} (Err y) (ok_or o x) → o ≡ None → r ≡ Err x
-none_refused {T} {U} {o} {x} {y} e f v n =
-    let w : ◌≡◌ {A = Result T Refusal} (Err y) (Err x) = rw n at v in
-    let g : y ≡ x = cc in
-    rw (e, f, g)

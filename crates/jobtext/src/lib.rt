@@ -41,10 +41,9 @@ fn read_mark(line: &[u8], next: usize, end: usize) -> Option<CellWord>
     let (index, word) = split_once(line, b'\t')?;
     let index = number_of(index)? as usize;
     let word = number_of(word)?;
-    if index < next || end <= index {
-        return None;
-    }
-    Some(CellWord { index, word })
+    (next..end)
+        .contains(&index)
+        .then_some(CellWord { index, word })
 }
 
 // Reads the lines after the first into lanes, from what the lanes hold.
@@ -57,19 +56,17 @@ fn read_cells(
     requires { side ≤ 8 }
     ensures { CellsRead (cells_from side 0 2 (lines_of text.now)) words.old words.new marks.old marks.new result }
 {
-    let cells = side * side * (side * side);
-    let mut rest = text;
+    let cells = side.pow(4);
     let mut next = 0;
     let mut marked = 0;
-    while !rest.is_empty() {
+    for piece in text.split_inclusive(|&b| b == b'\n') {
         let refusal = Refusal::Job(marked + 2);
-        let (line, behind) = split_once(rest, b'\n').ok_or(refusal)?;
+        let line = piece.strip_suffix(b"\n").ok_or(refusal)?;
         let cell = read_mark(line, next, cells).ok_or(refusal)?;
         words[cell.index] = cell.word;
         marks[cell.index] = 1;
         next = cell.index + 1;
         marked += 1;
-        rest = behind;
     }
     Ok(Job { side, marked })
 }
@@ -78,6 +75,7 @@ fn read_cells(
 pub fn read(text: &[u8], words: &mut [u32; 4096], marks: &mut [u8; 4096]) -> Result<Job, Refusal>
     ensures { JobRead (text_verdict text.now) words.old words.new marks.old marks.new result }
 {
+    // A text that is too long is refused as a whole: the place of that is 0.
     if text.len() > 65536 {
         return Err(Refusal::Job(0));
     }

@@ -3,23 +3,24 @@ use Prim.Native.Nat.{ℕ, zero, suc, ◌+◌, ◌-◌, ◌*◌, ◌≤◌, ◌<�
 use mathlib.Core.Path.{◌≡◌, refl, sym, ap, ◌∙◌}
 use mathlib.Core.Bool.{Bool, true, false, cond}
 use native.Mathlib.Omega.{arith}
-use native.Mathlib.Nat.{suc-mul, mul-one}
+use native.Mathlib.Nat.{suc-mul, mul-one, one-mul, add-mul}
 use native.Mathlib.Numerals.{add-one}
 use lib.Arith.{digits_div, digits_mod, digits_lt}
 use lib.Dec.{ltb}
-use borrow.Author.Tests.{ltb-true}
+use borrow.Author.Tests.{ltb-true, ltb-false}
 use Rattle.laws.proofs.Numbers.{square_grows}
 use Rattle.array.specs.declared.moves.Way.{Way}
 use Rattle.array.specs.declared.moves.Way.TheVariants.{Right, Left, Up, Down}
 use Rattle.array.specs.Cells.{groups, row, column}
+use Rattle.array.specs.Moves.{is_forth, stride_of, line_gap}
 use Rattle.array.proofs.Board.{place_is, row_in, column_in}
 use Rattle.std.specs.Prelude.{Some, None}
 use Rattle.lanes.specs.Stages.{position}
-use Rattle.lanes.specs.Inside.{Group, Source, source_of, behind_of, place_gap, line_gap, order_of, Places, Apart, line_from, line_at, LinesIn}
+use Rattle.lanes.specs.Inside.{Group, Source, source_of, behind_of, beginning_of, Places, Apart, line_from, line_at, LinesIn}
 
 -- the place at position p of line k, and the line of a place
 abbrev pub spot : ℕ → Way → ℕ → ℕ → ℕ
-spot s w k p = p * place_gap s w + k * line_gap s w
+spot s w k p = p * stride_of s w + k * line_gap s w
 
 abbrev pub line_number : Way → ℕ → ℕ → ℕ
 line_number Right a b = a
@@ -103,24 +104,51 @@ position_in i Left h l = column_in h i
 position_in i Up h l = row_in h i l
 position_in i Down h l = row_in h i l
 
--- what is known of the position behind another one, if there is one
-abbrev Each : (ℕ → Type 0) → Source → Type 0
-Each P (Some q) = P q
-Each P None = Unit {0}
+-- position or place j is so far behind i where the words go forth, or back
+abbrev pub Along : Bool → ℕ → ℕ → ℕ → Type 0
+Along true gap i j = j + gap ≡ i
+Along false gap i j = i + gap ≡ j
 
-known_before : (s p : ℕ) (t : Bool) → p < s → ltb 0 p ≡ t → Each (λ q. (q < s) × (s - 1 - p < s - 1 - q)) (cond t (Some (p - 1)) None)
-known_before s p true h e = let u = ltb-true 0 p e in (omega arith, omega arith)
-known_before s p false h e = tt
+-- a position behind another one, and one that has none
+pub record Behind (s : ℕ) (forth : Bool) (p q : ℕ) : Type 0 where
+  pub inside : q < s
+  pub other : q ≡ p → ⊥
+  pub next : Along forth 1 p q
+  pub later : p ≡ cond forth 0 (s - 1) → ⊥
 
-known_after : (s p : ℕ) (t : Bool) → ltb (p + 1) s ≡ t → Each (λ q. (q < s) × (p < q)) (cond t (Some (p + 1)) None)
-known_after s p true e = let u = ltb-true (p + 1) s e in (omega arith, omega arith)
-known_after s p false e = tt
+abbrev pub Known : ℕ → Bool → ℕ → Source → Type 0
+Known s forth p (Some q) = Behind s forth p q
+Known s forth p None = p ≡ cond forth 0 (s - 1)
 
-behind_known : (s : ℕ) (w : Way) (p : ℕ) → p < s → Each (λ q. (q < s) × (order_of w s p < order_of w s q)) (behind_of s w p)
-behind_known s Right p h = known_before s p _ h refl
-behind_known s Left p h = known_after s p _ refl
-behind_known s Up p h = known_after s p _ refl
-behind_known s Down p h = known_before s p _ h refl
+known : (s p : ℕ) (forth : Bool) → p < s → Known s forth p (cond forth (cond (ltb 0 p) (Some (p - 1)) None) (cond (ltb (p + 1) s) (Some (p + 1)) None))
+known s p true h = go (ltb 0 p) refl
+  where
+    go : (t : Bool) → ltb 0 p ≡ t → Known s true p (cond t (Some (p - 1)) None)
+    go true e = let u = ltb-true 0 p e in record { inside = omega arith; other = λ x. omega arith; next = omega arith; later = λ x. omega arith }
+    go false e = let u = ltb-false 0 p e in omega arith
+known s p false h = go (ltb (p + 1) s) refl
+  where
+    go : (t : Bool) → ltb (p + 1) s ≡ t → Known s false p (cond t (Some (p + 1)) None)
+    go true e = let u = ltb-true (p + 1) s e in record { inside = omega arith; other = λ x. omega arith; next = refl; later = λ x. omega arith }
+    go false e = let u = ltb-false (p + 1) s e in omega arith
+
+pub behind_known : (s : ℕ) (w : Way) (p : ℕ) → p < s → Known s (is_forth w) p (behind_of s w p)
+behind_known s w p h = known s p (is_forth w) h
+
+pub beginning_in : {s : ℕ} (w : Way) → 1 ≤ s → beginning_of s w < s
+beginning_in {s} w h = go (is_forth w)
+  where
+    go : (forth : Bool) → cond forth 0 (s - 1) < s
+    go true = h
+    go false = omega arith
+
+-- a position on is a place of the line on
+spot_next : (s : ℕ) (w : Way) (k p : ℕ) → spot s w k (p + 1) ≡ spot s w k p + stride_of s w
+spot_next s w k p = omega (arith, add-mul p 1 (stride_of s w), one-mul (stride_of s w))
+
+pub spots_along : (s : ℕ) (w : Way) (k p q : ℕ) (forth : Bool) → Along forth 1 p q → Along forth (stride_of s w) (spot s w k p) (spot s w k q)
+spots_along s w k p q true e = sym (spot_next s w k q) ∙ ap (spot s w k) e
+spots_along s w k p q false e = sym (spot_next s w k p) ∙ ap (spot s w k) e
 
 -- what comes to a place comes along its line
 abbrev pub placed : (ℕ → ℕ) → Source → Source
@@ -155,14 +183,6 @@ source_is s i Down = go (ltb 0 (row s i)) refl (row s i) refl
         let g : row s i - 1 ≡ a = omega (arith, f) in
         ap {B = Source} (λ z. Some z) (omega (arith, place_is s i, mul-one (column s i), ap (λ (n : ℕ). n * s) f, ap (λ (n : ℕ). n * s) g, suc-mul a s))
 
--- a position behind another one
-pub record Behind (s : ℕ) (w : Way) (p q : ℕ) : Type 0 where
-  pub inside : q < s
-  pub later : order_of w s p < order_of w s q
-
-pub behind_is : (s : ℕ) (w : Way) (p q : ℕ) → p < s → behind_of s w p ≡ Some q → Behind s w p q
-behind_is s w p q h e = let z = rw e at (behind_known s w p h) in record { inside = z.0; later = z.1 }
-
 -- the places at a position, and those behind them
 module _ {s n : ℕ} (g : Group s n) where
   line_gap_pos : (w : Way) → 0 < line_gap s w
@@ -171,24 +191,24 @@ module _ {s n : ℕ} (g : Group s n) where
   line_gap_pos Up = omega arith
   line_gap_pos Down = omega arith
 
-  pub places : (w : Way) (p : ℕ) → p < s → Places (p * place_gap s w) (line_gap s w) s n
+  pub places : (w : Way) (p : ℕ) → p < s → Places (p * stride_of s w) (line_gap s w) s n
   places w p h = record {
     few = rw g.whole (square_grows g.most);
     on = line_gap_pos w;
     inside = λ k u. rw g.whole (spot_in u h w);
   }
 
-  pub places_apart : (w : Way) (p q : ℕ) → p < s → q < s → (q ≡ p → ⊥) → Apart (p * place_gap s w) (q * place_gap s w) (line_gap s w) s
+  pub places_apart : (w : Way) (p q : ℕ) → p < s → q < s → (q ≡ p → ⊥) → Apart (p * stride_of s w) (q * stride_of s w) (line_gap s w) s
   places_apart w p q h h' e = record {
     are = λ j k u u' x. e (sym (spot-position u h' w) ∙ ap (λ i. position w (row s i) (column s i)) x ∙ spot-position u' h w);
   }
 
   -- as the code works them out
-  pub places_ready : (w : Way) (p q next apart : ℕ) → p < s → behind_of s w p ≡ Some q → next ≡ place_gap s w → apart ≡ line_gap s w
+  pub places_ready : (w : Way) (p q next apart : ℕ) → p < s → behind_of s w p ≡ Some q → next ≡ stride_of s w → apart ≡ line_gap s w
       → Places (p * next) apart s n × (Places (q * next) apart s n × Apart (p * next) (q * next) apart s)
   places_ready w p q next apart h e x y =
-      let b = behind_is s w p q h e in
-      rw (x, y) (places w p h, (places w q b.inside, places_apart w p q h b.inside (λ z. omega (arith, b.later, ap (order_of w s) z))))
+      let b : Behind s (is_forth w) p q = rw e at (behind_known s w p h) in
+      rw (x, y) (places w p h, (places w q b.inside, places_apart w p q h b.inside b.other))
 
   pub line_in_group : (w : Way) (p : ℕ) → LinesIn (line_at s w p) n
   line_in_group w p = go (ltb p s) refl

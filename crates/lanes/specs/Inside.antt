@@ -7,6 +7,7 @@ use Rattle.array.specs.declared.moves.Way.{Way}
 use Rattle.array.specs.declared.moves.Way.TheVariants.{Right, Left, Up, Down}
 use Rattle.array.specs.declared.moves.Move.TheVariants.{Electronic}
 use Rattle.array.specs.Cells.{groups, cells, row, column}
+use Rattle.array.specs.Moves.{is_forth, stride_of, line_gap}
 use Rattle.lanes.specs.declared.Joining.{Joining}
 use Rattle.lanes.specs.declared.Joining.TheVariants.{Add, Copy, Fill}
 use Rattle.lanes.specs.declared.steps.LinePlaces.{LinePlaces}
@@ -83,30 +84,11 @@ after_turn s w j p l =
 
 -- the position whose word comes to position p of a line
 abbrev pub behind_of : ℕ → Way → ℕ → Source
-behind_of s Right p = cond (ltb 0 p) (Some (p - 1)) None
-behind_of s Left p = cond (ltb (p + 1) s) (Some (p + 1)) None
-behind_of s Up p = cond (ltb (p + 1) s) (Some (p + 1)) None
-behind_of s Down p = cond (ltb 0 p) (Some (p - 1)) None
+behind_of s w p = cond (is_forth w) (cond (ltb 0 p) (Some (p - 1)) None) (cond (ltb (p + 1) s) (Some (p + 1)) None)
 
--- how far apart the places of a line are, and the lines
-abbrev pub place_gap : ℕ → Way → ℕ
-place_gap s Right = 1
-place_gap s Left = 1
-place_gap s Up = s
-place_gap s Down = s
-
-abbrev pub line_gap : ℕ → Way → ℕ
-line_gap s Right = s
-line_gap s Left = s
-line_gap s Up = 1
-line_gap s Down = 1
-
--- the order in which the positions take their turn where all of them do: from the far end back
-abbrev pub order_of : Way → ℕ → ℕ → ℕ
-order_of Right n k = n - 1 - k
-order_of Left n k = k
-order_of Up n k = k
-order_of Down n k = n - 1 - k
+-- the position to which no word comes
+abbrev pub beginning_of : ℕ → Way → ℕ
+beginning_of s w = cond (is_forth w) 0 (s - 1)
 
 -- count places of a stretch of n, from `first` on
 pub record Places (first apart count n : ℕ) : Type 0 where
@@ -120,7 +102,7 @@ pub record Apart (to from apart count : ℕ) : Type 0 where
 
 -- the places at position p and those behind them; none where no word comes
 abbrev pub line_from : ℕ → Way → ℕ → Source → Option LinePlaces
-line_from s w p (Some q) = Some (record { to = p * place_gap s w; from = q * place_gap s w; apart = line_gap s w; count = s })
+line_from s w p (Some q) = Some (record { to = p * stride_of s w; from = q * stride_of s w; apart = line_gap s w; count = s })
 line_from s w p None = None
 
 abbrev pub line_at : ℕ → Way → ℕ → Option LinePlaces
@@ -134,11 +116,22 @@ pub record LineIn (x : LinePlaces) (n : ℕ) : Type 0 where
 abbrev pub LinesIn : Option LinePlaces → ℕ → Type 0
 LinesIn line n = IfSome line (λ x. LineIn x n)
 
--- count places hold f 0, f 1, .. and the others what they held
-pub record PlacesLaid (first apart count : ℕ) (f : ℕ → ℕ) (l l' : List ℕ) : Type 0 where
+-- count places hold words of which P 0, P 1, .. hold, and the others what they held
+pub record PlacesMade (first apart count : ℕ) (P : ℕ → ℕ → Type 0) (l l' : List ℕ) : Type 0 where
   pub size : length l' ≡ length l
-  pub done : (k : ℕ) → k < count → get_or l' (first + k * apart) 0 ≡ f k
+  pub done : (k : ℕ) → k < count → P k (get_or l' (first + k * apart) 0)
   pub kept : (i : ℕ) → ((k : ℕ) → k < count → i ≡ first + k * apart → ⊥) → get_or l' i 0 ≡ get_or l i 0
+
+-- they hold f 0, f 1, ..
+abbrev pub PlacesLaid : ℕ → ℕ → ℕ → (ℕ → ℕ) → List ℕ → List ℕ → Type 0
+PlacesLaid first apart count f l l' = PlacesMade first apart count (λ k v. v ≡ f k) l l'
+
+-- the places of a line hold what a step makes of their words and of those that came to them
+abbrev pub LineMade : (ℕ → ℕ → ℕ → Type 0) → LinePlaces → List ℕ → List ℕ → Type 0
+LineMade R x l l' = PlacesMade x.to x.apart x.count (λ k v. R (get_or l (x.to + k * x.apart) 0) (get_or l (x.from + k * x.apart) 0) v) l l'
+
+pub record LinesMade (R : ℕ → ℕ → ℕ → Type 0) (line : Option LinePlaces) (l l' : List ℕ) : Type 0 where
+  pub so : MatchOption line (l' ≡ l) (λ x. LineMade R x l l')
 
 -- what a cell makes of its word and the one that it received, when it is its turn
 abbrev pub join_of : Joining → ℕ → ℕ → ℕ

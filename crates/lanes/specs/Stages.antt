@@ -2,23 +2,17 @@
 use Rattle.std.specs.Prelude.{ℕ, suc, ◌+◌, ◌-◌, cond, eqb}
 use Rattle.std.proofs.Math.Option.{Option, none, some}
 use Rattle.array.specs.declared.moves.Way.{Way}
-use Rattle.array.specs.declared.moves.Way.TheVariants.{Right, Left, Up, Down}
+use Rattle.array.specs.Moves.{is_along_rows, is_forth}
 use Rattle.runs.specs.Runs.{along, swapping}
 use Rattle.lanes.specs.Machine.{Stage}
 
 -- the position of the cell in row a and column b on the line that a way goes along
 abbrev pub position : Way → ℕ → ℕ → ℕ
-position Right a b = b
-position Left a b = b
-position Up a b = a
-position Down a b = a
+position w a b = cond (is_along_rows w) b a
 
 -- the position k steps on from e
 abbrev pub steps_on : Way → ℕ → ℕ → ℕ
-steps_on Right e k = e + k
-steps_on Left e k = e - k
-steps_on Up e k = e - k
-steps_on Down e k = e + k
+steps_on w e k = cond (is_forth w) (e + k) (e - k)
 
 -- a cell at position p when it is the turn of position q: it joins the word that it receives to what it has
 unfoldable pub front : {R A : Type 0} → (R → A → R) → ℕ → ℕ → R → Option A → R

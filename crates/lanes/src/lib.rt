@@ -7,7 +7,7 @@ ghost use Rattle.std.specs.Prelude.{◌≡◌, ◌&&◌, length};
 ghost use Rattle.array.specs.Cells.{is_board};
 ghost use Rattle.lanes.specs.Runs.{is_run, ran_words};
 
-use crate::steps::run_board;
+use crate::steps::Lines;
 use array::cells::is_board;
 use array::moves::Way;
 
@@ -34,5 +34,5 @@ pub fn run(side: usize, way: Way, joining: Joining, e: usize, n: usize, words: &
     if !is_run(side, e, n, words.len()) {
         return;
     }
-    run_board(words, side, way, joining, e, n);
+    Lines { side, way }.run(words, joining, e, n);
 }

@@ -1,6 +1,6 @@
 -- A list in blocks of n entries: what a loop that lends each block in turn leaves.
 use Prim.Native.Nat.{ℕ, ◌+◌, ◌-◌, ◌*◌, ◌≤◌, ◌<◌}
-use mathlib.Core.Path.{◌≡◌, refl, sym, ap, ◌∙◌}
+use mathlib.Core.Path.{◌≡◌, sym, ap, ◌∙◌}
 use mathlib.Core.List.{List}
 use native.Mathlib.Omega.{arith}
 use native.Mathlib.Decide.{ℕ_discrete}
@@ -21,9 +21,6 @@ pub record Changed (f : List ℕ → List ℕ) (n : ℕ) (old : List ℕ) (g : �
   pub size : length l ≡ length old
   pub done : (h : ℕ) → h < g → block n h l ≡ f (block n h old)
   pub left : (h : ℕ) → g ≤ h → block n h l ≡ block n h old
-
-pub changed-start : (f : List ℕ → List ℕ) (n : ℕ) (old : List ℕ) → Changed f n old 0 old
-changed-start f n old = record { size = refl; done = λ h p. absurd (omega arith); left = λ h p. refl }
 
 next_le : (n g h : ℕ) → g < h → g * n + n ≤ h * n
 next_le n g h p = rw (← suc-mul) (mul-le-mul_right n p)

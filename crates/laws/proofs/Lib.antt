@@ -4,6 +4,7 @@ pub mod Deciding
 pub mod Filling
 pub mod Numbers
 pub mod Pairing
+pub mod Powers
 pub mod Reversed
 pub mod Rewriting
 pub mod Searching

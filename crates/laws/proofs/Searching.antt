@@ -2,8 +2,7 @@
 use Prim.Native.Nat.{ℕ, zero, suc, ◌+◌, ◌-◌, ◌≤◌, ◌<◌}
 use mathlib.Core.Path.{◌≡◌, refl, ◌∙◌}
 use mathlib.Core.Bool.{Bool, true, false, cond}
-use native.Mathlib.Nat.{add-zero, zero-add, sub-zero}
-use native.Mathlib.Numerals.{add-one}
+use native.Mathlib.Nat.{add-zero, zero-add}
 use native.Mathlib.Omega.{arith}
 use borrow.Author.Tests.{ltb-false}
 use lib.Dec.{ltb}
@@ -15,26 +14,6 @@ pub record Searching (test : ℕ → Bool) (n i : ℕ) : Type 0 where
   pub left : first test n ≡ first_from test i (n - i)
 
 module _ (test : ℕ → Bool) (n : ℕ) where
-  pub searching_start : Searching test n 0
-  searching_start = record { inside = omega arith; left = rw sub-zero }
-
-  open_up : (i : ℕ) → i < n → first_from test i (n - i) ≡ cond (test i) i (first_from test (i + 1) (n - (i + 1)))
-  open_up i h =
-      let e : n - i ≡ suc (n - (i + 1)) = omega arith in
-      rw (e, add-one i)
-
-  pub searching_next : {i : ℕ} → i < n → test i ≡ false → Searching test n i → Searching test n (i + 1)
-  searching_next {i} h e z = record { inside = omega arith; left = z.left ∙ open_up i h ∙ rw e }
-
-  pub searching_found : {i : ℕ} → i < n → test i ≡ true → Searching test n i → first test n ≡ i
-  searching_found {i} h e z = z.left ∙ open_up i h ∙ rw e
-
-  pub searching_none : {i : ℕ} → n ≤ i → Searching test n i → first test n ≡ n
-  searching_none {i} h z =
-      let e : n - i ≡ 0 = omega arith in
-      let f : i ≡ n = omega (arith, z.inside) in
-      z.left ∙ rw e f
-
   -- none is found just where the test holds of none
   none_from : (i m : ℕ) → i + m ≤ first_from test i m → (k : ℕ) → k < m → test (i + k) ≡ false
   none_from i zero h k l = absurd (omega arith)

@@ -2,11 +2,10 @@
 use Prim.Native.Nat.{ℕ, suc, ◌+◌, ◌-◌, ◌≤◌, ◌<◌}
 use mathlib.Core.Path.{◌≡◌, refl, sym, ap, ap₂, ◌∙◌}
 use mathlib.Core.List.{List, [], ◌∷◌, ◌++◌}
-use mathlib.Core.Logic.{⊎_elim}
-use native.Mathlib.Nat.{add-zero, add-suc, suc-add, sub_self, eq-or-lt_of_le}
+use native.Mathlib.Nat.{add-zero, add-suc, suc-add}
 use native.Mathlib.Omega.{arith}
-use lib.ListN.{length, set, take, drop, get_or, take-append-drop}
-use lib.Seq.{sets, sets-eq, set_out, take_at, take-suc, take_all, length-take-le, length-sets}
+use lib.ListN.{length, set, take, get_or}
+use lib.Seq.{sets, set_out, take-suc, take_all, length-take-le}
 
 module _ {A : Type 0} where
   pub sets-append : (l : List A) (i : ℕ) (vs ws : List A) → sets l i (vs ++ ws) ≡ sets (sets l i vs) (i + length vs) ws
@@ -33,9 +32,6 @@ pub record Storing {A : Type 0} (l vs : List A) (from at : ℕ) (now : List A) :
   pub stored : now ≡ sets l from (take (at - from) vs)
 
 module _ {A : Type 0} (l vs : List A) (from : ℕ) where
-  pub storing_start : Storing l vs from from l
-  storing_start = record { past = omega arith; stored = rw (sub_self from) }
-
   pub storing_next : {at : ℕ} {now : List A} (v d : A) → at - from < length vs → get_or vs (at - from) d ≡ v
       → Storing l vs from at now → Storing l vs from (at + 1) (set now at v)
   storing_next {at} {now} v d h e z =
@@ -43,20 +39,6 @@ module _ {A : Type 0} (l vs : List A) (from : ℕ) where
       let m : from + (at - from) ≡ at = omega (arith, z.past) in
       record { past = omega (arith, z.past); stored = sym (ap (λ (k : ℕ). sets l from (take k vs)) n ∙ sets_next l from vs (at - from) d h ∙ ap₂ (λ (k : ℕ) (x : A). set (sets l from (take (at - from) vs)) k x) m e ∙ ap (λ (k : List A). set k at v) (sym z.stored)) }
 
-  -- all are stored, or the list is at its end
+  -- all are stored
   pub storing_all : {at : ℕ} {now : List A} → length vs ≤ at - from → Storing l vs from at now → now ≡ sets l from vs
   storing_all {at} h z = z.stored ∙ ap (sets l from) (take_all (at - from) vs h)
-
-  pub storing_end : {at : ℕ} {now : List A} → length l ≤ at → Storing l vs from at now → now ≡ sets l from vs
-  storing_end {at} {now} h z = ⊎_elim (λ n. storing_all (omega arith) z) (λ n. short (omega arith)) (eq-or-lt_of_le {n = 0} {m = length vs - (at - from)} (omega arith))
-    where
-      short : at - from ≤ length vs → now ≡ sets l from vs
-      short n =
-          z.stored
-          ∙ sym (sets_past (sets l from (take (at - from) vs)) (from + length (take (at - from) vs)) (drop (at - from) vs) (rw (length-sets, length-take-le (at - from) vs n) (omega (arith, z.past))))
-          ∙ sym (sets-append l from (take (at - from) vs) (drop (at - from) vs))
-          ∙ ap (sets l from) (take-append-drop (at - from) vs)
-
--- what was written at the start of a list is read there
-pub front_of : (l vs : List ℕ) (n : ℕ) → length vs ≡ n → n ≤ length l → take n (sets l 0 vs) ≡ vs
-front_of l vs n e h = ap (take n) (sets-eq vs l 0 (omega arith)) ∙ take_at vs _ n e

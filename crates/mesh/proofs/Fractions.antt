@@ -40,12 +40,6 @@ module _ (x d : ℕ) (pos : 0 < d) (few : d ≤ 4096) (small : x < 65536) where
   part_is : x * share_of d % whole ≡ x / d * over + x % d * share_of d
   part_is = ap (λ (n : ℕ). n % whole) product ∙ digits_mod (x / d) rest_few
 
-  pub share_fits : x * share_of d < 18446744073709551616
-  share_fits =
-      let a : x * share_of d ≤ 65535 * share_of d = mul-le-mul_right (share_of d) (omega arith) in
-      let b : whole / d ≤ whole = omega (arith, div-add-mod' whole d, mul-le-mul_left (whole / d) pos) in
-      omega (arith, a, b)
-
 -- a digit of x: its weight is c, and m times c its period
 module _ (x m c : ℕ) (m_pos : 0 < m) (c_pos : 0 < c) (pos : 0 < m * c) (few : m * c ≤ 4096) (small : x < 65536) where
   abbrev d : ℕ

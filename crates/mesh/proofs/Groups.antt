@@ -9,7 +9,7 @@ use native.Mathlib.Numerals.{add-one}
 use native.Mathlib.Omega.{arith}
 use borrow.Author.Tests.{lt-ltb, le-ltb, eq-eqb, eqb-true}
 use lib.Dec.{eqb, ltb}
-use lib.ListN.{length, get_or}
+use lib.ListN.{get_or}
 use Rattle.laws.specs.Lent.{Lent}
 use Rattle.laws.proofs.Bools.{never}
 use Rattle.laws.specs.Sums.{sum}
@@ -26,7 +26,7 @@ use Rattle.mesh.specs.Inside.{Strided, line_step, moving_groups, Lies, RanLine, 
 use Rattle.mesh.proofs.Spots.{by_stride, run_same, line_of, spotted, split, line_in, ran_spotted, ran-part}
 
 -- few records leave a cell, and so a line and a group
-went_few : (t : LineRule) (d p : ℕ) (x : Rec) → went_of t d p x ≤ 1
+pub went_few : (t : LineRule) (d p : ℕ) (x : Rec) → went_of t d p x ≤ 1
 unfolding went_of
 went_few t d p x = go (leaves t p x) (eqb d (cells_to_go t p (head_of t x)))
   where
@@ -41,7 +41,6 @@ cell_few t d p c = omega (arith, went_few t d p c.front, went_few t d p c.spare)
 -- the lines below l have run, and the others are as they were
 pub record Lined (t : LineRule) (l : ℕ) (T C : ℕ → Cell) (old counts : List ℕ) : Type 0 where
   pub upto : l ≤ t.side
-  pub long : length counts ≡ 8
   pub made : (i : ℕ) → i < groups t.side → C i ≡ cond (ltb (line_of t i) l) (ran_on t T i) (T i)
   pub count : (d : ℕ) → d < 8 → get_or counts d 0 ≡ get_or old d 0 + sum l (λ k. sum t.side (λ p. went_from t d p (T (k * line_step t + p * t.stride))))
 
@@ -74,10 +73,9 @@ module _ {t : LineRule} {l : ℕ} {T C C' : ℕ → Cell} {old now₁ : List ℕ
   there : (i : ℕ) → i < groups t.side → (line_of t i ≡ l → ⊥) → C' i ≡ C i
   there i u d = r.kept i (λ p w e. d (ap (line_of t) e ∙ (spotted t pos z l p h w).line))
 
-  pub lined_step : counts.entry.now ≡ now₁ → length counts.exit.now ≡ 8 → Lined t (l + 1) T C' old counts.exit.now
-  lined_step e k = rw add-one (record {
+  pub lined_step : counts.entry.now ≡ now₁ → Lined t (l + 1) T C' old counts.exit.now
+  lined_step e = rw add-one (record {
     upto = omega arith;
-    long = k;
     made = λ i u. ⊎_elim
         (λ a. rw (lt-ltb (line_of t i) (suc l) (omega arith)) (here i u a))
         (λ a. there i u a ∙ y.made i u ∙ ap (λ (b : Bool). cond b (ran_on t T i) (T i)) (⊎_elim
@@ -113,12 +111,11 @@ lined_end {t} {l} {T} {C} {old} {counts} pos z h e y =
 pub record Ranged (t : LineRule) (g base : ℕ) (T C : ℕ → Cell) (counts : List ℕ) : Type 0 where
   pub upto : base ≡ g * groups t.side
   pub within : g ≤ groups t.side
-  pub long : length counts ≡ 8
   pub made : (i : ℕ) → i < cells t.side → C i ≡ cond (ltb i base) (ran_on t T i) (T i)
   pub count : (d : ℕ) → d < 8 → get_or counts d 0 ≡ sum base (λ i. went_from t d (spot_of t i) (T i))
 
-pub ranged_start : (t : LineRule) (T : ℕ → Cell) {old : List ℕ} → length old ≡ 8 → ((d : ℕ) → get_or old d 0 ≡ 0) → Ranged t 0 0 T T old
-ranged_start t T e f = record { upto = omega arith; within = omega arith; long = e; made = λ i u. rw (le-ltb i 0 (omega arith)); count = λ d h. f d }
+pub ranged_start : (t : LineRule) (T : ℕ → Cell) {old : List ℕ} → ((d : ℕ) → get_or old d 0 ≡ 0) → Ranged t 0 0 T T old
+ranged_start t T f = record { upto = omega arith; within = omega arith; made = λ i u. rw (le-ltb i 0 (omega arith)); count = λ d h. f d }
 
 pub ranged_few : {t : LineRule} {g base : ℕ} {T C : ℕ → Cell} {counts : List ℕ} → base ≤ 4096 → Ranged t g base T C counts → (d : ℕ) → d < 8 → get_or counts d 0 ≤ 8192
 ranged_few {t} {g} {base} {T} few z d h = omega (arith, few, z.count d h, sum_few (λ i. went_from t d (spot_of t i) (T i)) 2 (λ i. cell_few t d (spot_of t i) (T i)) base)
@@ -145,12 +142,11 @@ module _ {t : LineRule} {g base : ℕ} {T C : ℕ → Cell} {now₁ : List ℕ} 
       (sym (ran-part t pos strided g (λ k. C (g * N + k)) C (λ k u. refl) i h)
       ∙ ran-part t pos strided g (λ k. C (g * N + k)) T (λ k u. rw z.upto at (still k u)) i h)
 
-  pub ranged_step : {C' : ℕ → Cell} {counts : Lent} → counts.entry.now ≡ now₁ → length counts.exit.now ≡ 8 → RanPart t base counts C C'
+  pub ranged_step : {C' : ℕ → Cell} {counts : Lent} → counts.entry.now ≡ now₁ → RanPart t base counts C C'
       → Ranged t (g + 1) (base + groups t.side) T C' counts.exit.now
-  ranged_step {C'} {counts} e k m = record {
+  ranged_step {C'} {counts} e m = record {
     upto = omega (arith, z.upto, suc-mul g N);
     within = omega arith;
-    long = k;
     made = λ i u. ⊎_elim (below i u) (λ h. ⊎_elim (here i h) (above i u) (apart i (base + N))) (apart i base);
     count = λ d h. m.count d h ∙ ap₂ ◌+◌ (ap (λ (b : List ℕ). get_or b d 0) e ∙ z.count d h) (sum_cong N (λ i u. ap (went_from t d (spot_of t (base + i))) (still i u))) ∙ sym (sum_add base N (λ i. went_from t d (spot_of t i) (T i)));
   }

@@ -1,33 +1,32 @@
 -- A line that moves: each record is put down where its moves take it.
-use Prim.Native.Nat.{ℕ, zero, suc, ◌+◌, ◌*◌, ◌/◌, ◌%◌, ◌≤◌, ◌<◌, min}
+use Prim.Native.Nat.{ℕ, zero, suc, ◌+◌, ◌*◌, ◌≤◌, ◌<◌, min}
 use mathlib.Core.Path.{◌≡◌, refl, sym, ap, ap₂, subst, ◌∙◌}
 use mathlib.Core.Logic.{◌⊎◌, inl, inr, ⊎_elim}
 use mathlib.Core.Bool.{Bool, true, false, cond, not}
 use mathlib.Core.List.{List}
-use native.Mathlib.Nat.{add-zero, div-lt_iff_lt-mul}
+use native.Mathlib.Nat.{add-zero}
 use native.Mathlib.Numerals.{add-one}
 use native.Mathlib.Omega.{arith}
 use borrow.Author.Tests.{eq-eqb, ne_eqb, lt-ltb, le-ltb, not-true, not-false}
 use lib.Dec.{eqb, ltb}
-use lib.Arith.{digits_div, digits_mod}
-use lib.ListN.{length, get_or, set, replicate, length-set}
+use lib.ListN.{length, get_or, set, replicate}
 use Rattle.laws.specs.Lent.{Lent, old, new}
-use Rattle.laws.specs.Sums.{sum}
 use Rattle.laws.proofs.Bools.{both_left, both_right}
-use Rattle.laws.proofs.Sums.{sum_cong, sum_pairs}
+use Rattle.laws.proofs.Sums.{sum_cong}
 use Rattle.laws.proofs.Totals.{sum_zero, sum_few}
 use Rattle.laws.proofs.Deciding.{apart, same?}
 use Rattle.laws.proofs.Setting.{get_or_stored}
 use Rattle.slots.specs.declared.Rec.{Rec}
 use Rattle.slots.specs.declared.Cell.{Cell}
-use Rattle.slots.specs.Cells.{empty, joined}
+use Rattle.slots.specs.Cells.{nothing, empty, joined}
 use Rattle.mesh.specs.declared.lines.LineRule.{LineRule}
 use Rattle.mesh.specs.declared.lines.Arrival.{Arrival}
 use Rattle.mesh.specs.Lines.{head_of, end_of, reach, leaves, none_leaves, is_still, landed, gathered, cells_to_go, went_of, went_from}
-use Rattle.mesh.specs.Inside.{gone_of, slot_of, slot_in, Taken, Laid, cells_of, Lands, Arrives, settled, PutDown, RanLine}
+use Rattle.mesh.specs.Inside.{gone_of, Taken, LaidSlots, cells_of, Lands, Arrives, PutDown, LinePutDown, RanLine}
 use Rattle.mesh.proofs.Walking.{leaves-gone}
 use Rattle.mesh.proofs.Ruling.{distance_few}
 use Rattle.mesh.proofs.Spots.{gathered-same}
+use Rattle.mesh.proofs.Groups.{went_few, cell_few}
 
 -- a record without a mark is none
 none_joins : (c : Cell) (x : Rec) → x.mark ≡ 0 → joined c x ≡ c
@@ -51,15 +50,6 @@ went_lands t d p x {r} m z = rw (ne_eqb x.mark 0 m, z.far, z.went, z.at) (go (eq
     go true true = refl
     go true false = refl
     go false b = refl
-
-went_most : (t : LineRule) (d p : ℕ) (x : Rec) → went_of t d p x ≤ 1
-unfolding went_of
-went_most t d p x = go (leaves t p x) (eqb d (cells_to_go t p (head_of t x)))
-  where
-    go : (a b : Bool) → cond a (cond b 1 0) 0 ≤ 1
-    go true true = omega arith
-    go true false = omega arith
-    go false b = omega arith
 
 -- the arrival of a record, of numbers that the code has
 pub lands : {t : LineRule} {p h on : ℕ} {r : Arrival} → t.side ≤ 8 → t.made ≤ t.times → p < t.side → h < t.side → r.far ≡ cells_to_go t p h → on ≡ gone_of t r.far → r.went ≡ min on 1
@@ -110,109 +100,82 @@ no_cells zero e j h = absurd (omega arith)
 no_cells (suc n) e zero h = e
 no_cells (suc n) e (suc j) h = no_cells n e j (omega arith)
 
--- the records of the first k slots were put down
-pub record Settling (t : LineRule) (U : ℕ → Cell) (k : ℕ) (counts counts' : List ℕ) (line : List Cell) : Type 0 where
-  pub within : k ≤ 2 * t.side
-  pub long : length counts' ≡ 8
-  pub line_long : length line ≡ 8
-  pub done : PutDown t U k counts counts' line
+-- what is no record is put down by doing nothing
+pub put_none : {t : LineRule} {p : ℕ} {x : Rec} (counts : List ℕ) (line : List Cell) → x.mark ≡ 0 → PutDown t p x counts counts line line
+unfolding landed
+put_none {t} {p} {x} counts line m = record {
+  made = λ j u. sym (one_less (eqb (end_of t p x) j) _ _ (none_joins _ x m));
+  count = λ d u. omega (arith, none_went t d p x m);
+}
 
-pub settling_start : (t : LineRule) (U : ℕ → Cell) {counts : List ℕ} {line : List Cell} → length counts ≡ 8 → length line ≡ 8 → ((j : ℕ) → j < 8 → get_or line j empty ≡ empty) → Settling t U 0 counts counts line
-unfolding settled
-settling_start t U {counts} e f g =
-    record { within = omega arith; long = e; line_long = f; done = record { made = g; count = λ d h. sym (add-zero (get_or counts d 0)) } }
-
--- a slot with no record
-pub settling_none : {t : LineRule} {U : ℕ → Cell} {k : ℕ} {counts counts' : List ℕ} {line : List Cell} {x : Rec} → k < 2 * t.side → x ≡ slot_in U k → x.mark ≡ 0 → Settling t U k counts counts' line
-    → Settling t U (k + 1) counts counts' line
-unfolding settled landed
-settling_none {t} {U} {k} h e m z =
-    let m' : (slot_in U k).mark ≡ 0 = ap (λ (y : Rec). y.mark) (sym e) ∙ m in
-    rw add-one (record {
-      within = omega arith;
-      long = z.long;
-      line_long = z.line_long;
-      done = record {
-        made = λ j u. z.done.made j u ∙ sym (one_less (eqb (end_of t (k / 2) (slot_in U k)) j) _ _ (none_joins _ (slot_in U k) m'));
-        count = λ d u. omega (arith, z.done.count d u, none_went t d (k / 2) (slot_in U k) m');
-      };
-    })
-
--- and with one
-pub settling_step : {t : LineRule} {U : ℕ → Cell} {k : ℕ} {counts counts' : List ℕ} {line : List Cell} {x : Rec} {r : Arrival} {v : ℕ} {met : Cell} → k < 2 * t.side → t.side ≤ 8 → x ≡ slot_in U k
-    → Arrives t (k / 2) x r → v ≡ get_or counts' r.far 0 + r.went → met ≡ joined (get_or line r.at empty) x → Settling t U k counts counts' line
-    → Settling t U (k + 1) counts (set counts' r.far v) (set line r.at met)
-unfolding settled
-settling_step {t} {U} {k} {counts} {counts'} {line} {x} {r} {v} {met} h few e y g o z = rw add-one (record {
-  within = omega arith;
-  long = length-set counts' r.far v ∙ z.long;
-  line_long = length-set line r.at met ∙ z.line_long;
-  done = record {
-    made = λ j u. rw (← e) (get_or_stored line r.at j met empty (omega (arith, z.line_long, y.on)) ∙ put j (same? j r.at) ∙ y.lands j (get_or line j empty) ∙ ap (landed t j (k / 2) x) (z.done.made j u));
-    count = λ d u. rw (← e) (get_or_stored counts' r.far d v 0 (omega (arith, z.long, y.few)) ∙ add d (same? d r.far) ∙ ap₂ ◌+◌ (z.done.count d u) (y.went d) ∙ omega arith);
-  };
-})
+-- and a record so
+pub put_some : {t : LineRule} {p : ℕ} {x : Rec} {r : Arrival} {counts : List ℕ} {line : List Cell} {v : ℕ} {met : Cell}
+    → t.side ≤ 8 → length counts ≡ 8 → length line ≡ 8 → Arrives t p x r → v ≡ get_or counts r.far 0 + r.went
+    → met ≡ joined (get_or line r.at empty) x → PutDown t p x counts (set counts r.far v) line (set line r.at met)
+put_some {t} {p} {x} {r} {counts} {line} {v} {met} few long line_long y g o = record {
+  made = λ j u. get_or_stored line r.at j met empty (omega (arith, line_long, y.on)) ∙ put j (same? j r.at) ∙ y.lands j (get_or line j empty);
+  count = λ d u. get_or_stored counts r.far d v 0 (omega (arith, long, y.few)) ∙ add d (same? d r.far)
+      ∙ ap (λ (n : ℕ). get_or counts d 0 + n) (y.went d);
+}
   where
     put : (j : ℕ) → (j ≡ r.at) ⊎ (j ≡ r.at → ⊥) → cond (eqb j r.at) met (get_or line j empty) ≡ cond (eqb j r.at) (joined (get_or line j empty) x) (get_or line j empty)
     put j (inl i) = rw (eq-eqb j r.at i) (o ∙ ap (λ (n : ℕ). joined (get_or line n empty) x) (sym i))
     put j (inr i) = rw (ne_eqb j r.at i)
 
-    add : (d : ℕ) → (d ≡ r.far) ⊎ (d ≡ r.far → ⊥) → cond (eqb d r.far) v (get_or counts' d 0) ≡ get_or counts' d 0 + cond (eqb d r.far) r.went 0
-    add d (inl i) = rw (eq-eqb d r.far i) (omega (arith, g, ap (λ (n : ℕ). get_or counts' n 0) i))
-    add d (inr i) = rw (ne_eqb d r.far i) (sym (add-zero (get_or counts' d 0)))
+    add : (d : ℕ) → (d ≡ r.far) ⊎ (d ≡ r.far → ⊥) → cond (eqb d r.far) v (get_or counts d 0) ≡ get_or counts d 0 + cond (eqb d r.far) r.went 0
+    add d (inl i) = rw (eq-eqb d r.far i) (omega (arith, g, ap (λ (n : ℕ). get_or counts n 0) i))
+    add d (inr i) = rw (ne_eqb d r.far i) (sym (add-zero (get_or counts d 0)))
 
-pub settling_few : {t : LineRule} {U : ℕ → Cell} {k : ℕ} {counts counts' : List ℕ} {line : List Cell} → t.side ≤ 8 → Settling t U k counts counts' line → (d : ℕ) → d < 8
-    → get_or counts' d 0 ≤ get_or counts d 0 + 16
-settling_few {t} {U} {k} few z d h =
-    omega (arith, z.done.count d h, z.within, few, sum_few (λ i. went_of t d (i / 2) (slot_in U i)) 1 (λ i. went_most t d (i / 2) (slot_in U i)) k)
+-- the records of the first cells were put down
+pub record Settling (t : LineRule) (U : ℕ → Cell) (q : ℕ) (counts counts' : List ℕ) (line : List Cell) : Type 0 where
+  pub within : q ≤ t.side
+  pub done : LinePutDown t U q counts counts' line
 
--- the cell of a slot is one of the line
-pub cell_in : {s n k : ℕ} → k < n → n ≡ 2 * s → s ≤ 8 → (k / 2 < s) × (k / 2 < 8)
-cell_in {s} {n} {k} h e few =
-    let z : k / 2 < s = (div-lt_iff_lt-mul {k = 2} {x = k} {y = s} (omega arith)).1 (omega arith) in
-    (z, omega arith)
+pub settling_start : (t : LineRule) (U : ℕ → Cell) {counts : List ℕ} {line : List Cell}
+    → ((j : ℕ) → j < 8 → get_or line j empty ≡ empty) → Settling t U 0 counts counts line
+unfolding gathered
+settling_start t U {counts} g =
+    record { within = omega arith; done = record { made = g; count = λ d h. sym (add-zero (get_or counts d 0)) } }
 
--- the two slots of a cell
-front_of : (q : ℕ) → (q * 2 / 2 ≡ q) × (q * 2 % 2 ≡ 0)
-front_of q = (ap (λ (n : ℕ). n / 2) (sym (add-zero (q * 2))) ∙ digits_div q (omega arith), ap (λ (n : ℕ). n % 2) (sym (add-zero (q * 2))) ∙ digits_mod q (omega arith))
+pub settling_step : {t : LineRule} {U : ℕ → Cell} {q : ℕ} {counts c₁ c₂ c₃ : List ℕ} {l₁ l₂ l₃ : List Cell} → q < t.side
+    → PutDown t q (U q).front c₁ c₂ l₁ l₂ → PutDown t q (U q).spare c₂ c₃ l₂ l₃ → Settling t U q counts c₁ l₁ → Settling t U (q + 1) counts c₃ l₃
+unfolding gathered
+settling_step {t} {U} {q} h x y z = rw add-one (record {
+  within = omega arith;
+  done = record {
+    made = λ j u. y.made j u ∙ ap (landed t j q (U q).spare) (x.made j u ∙ ap (landed t j q (U q).front) (z.done.made j u));
+    count = λ d u. omega (arith, y.count d u, x.count d u, z.done.count d u);
+  };
+})
 
-spare_of : (q : ℕ) → (suc (q * 2) / 2 ≡ q) × (suc (q * 2) % 2 ≡ 1)
-spare_of q = (ap (λ (n : ℕ). n / 2) (sym (add-one (q * 2))) ∙ digits_div q (omega arith), ap (λ (n : ℕ). n % 2) (sym (add-one (q * 2))) ∙ digits_mod q (omega arith))
+pub put_few : {t : LineRule} {p : ℕ} {x : Rec} {counts counts' : List ℕ} {line line' : List Cell} → PutDown t p x counts counts' line line'
+    → (d : ℕ) → d < 8 → get_or counts' d 0 ≤ get_or counts d 0 + 1
+put_few {t} {p} {x} z d h = omega (arith, z.count d h, went_few t d p x)
 
-twice_more : (n : ℕ) → suc n * 2 ≡ suc (suc (n * 2))
-twice_more n = omega arith
-
--- slot by slot is cell by cell
-settled-gathered : (t : LineRule) (U : ℕ → Cell) (j n : ℕ) → settled t U j (n * 2) ≡ gathered t U j n
-unfolding settled gathered
-settled-gathered t U j zero = refl
-settled-gathered t U j (suc n) =
-    rw (twice_more n, (front_of n).0, (front_of n).1, (spare_of n).0, (spare_of n).1)
-    (ap (λ (c : Cell). landed t j n (U n).spare (landed t j n (U n).front c)) (settled-gathered t U j n))
-
-counted : (t : LineRule) (U : ℕ → Cell) (d : ℕ) → sum (t.side * 2) (λ k. went_of t d (k / 2) (slot_in U k)) ≡ sum t.side (λ q. went_from t d q (U q))
-counted t U d =
-    sum_pairs t.side (λ k. went_of t d (k / 2) (slot_in U k))
-    ∙ sum_cong t.side (λ q u. rw ((front_of q).0, (front_of q).1, (spare_of q).0, (spare_of q).1) refl)
+-- there is room for both records of the next cell
+pub settling_few : {t : LineRule} {U : ℕ → Cell} {q : ℕ} {counts counts' : List ℕ} {line : List Cell} → t.side ≤ 8 → q < t.side
+    → Settling t U q counts counts' line → (d : ℕ) → d < 8 → get_or counts' d 0 ≤ get_or counts d 0 + 14
+settling_few {t} {U} {q} few u z d h = omega (arith, z.done.count d h, few, sum_few (λ i. went_from t d i (U i)) 2 (λ i. cell_few t d i (U i)) q)
 
 -- the cells of a table by its front slots and its spare ones
 abbrev both : (ℕ → Rec) → (ℕ → Rec) → ℕ → Cell
 both S S₂ i = record { front = S i; spare = S₂ i }
 
 -- a line that something leaves
-pub ran_moved : {t : LineRule} {start : ℕ} {S S₂ S' S₂' : ℕ → Rec} (fronts spares : List Rec) {line : List Cell} {a b : List ℕ} {counts : Lent} → t.side ≤ 8
-    → is_still t (λ q. both S S₂ (start + q * t.stride)) ≡ false → Taken t start S fronts → Taken t start S₂ spares → PutDown t (cells_of fronts spares) (2 * t.side) a b line
-    → Laid t start t.side (λ p. slot_of false (get_or line p empty)) S S' → Laid t start t.side (λ p. slot_of true (get_or line p empty)) S₂ S₂'
-    → a ≡ old counts → b ≡ new counts → RanLine t start counts (both S S₂) (both S' S₂')
-ran_moved {t} {start} {S} {S₂} fronts spares {line} {a} {b} {counts} few still f g m l l₂ e e' =
-    let n : 2 * t.side ≡ t.side * 2 = omega arith in
+pub ran_moved : {t : LineRule} {start : ℕ} {S S₂ S' S₂' : ℕ → Rec} (fronts spares ahead behind : List Rec) {line : List Cell} {a b : List ℕ}
+    {counts : Lent} → t.side ≤ 8 → is_still t (λ q. both S S₂ (start + q * t.stride)) ≡ false → Taken t start S fronts → Taken t start S₂ spares
+    → LinePutDown t (cells_of fronts spares) t.side a b line → ((p : ℕ) → p < 8 → get_or ahead p nothing ≡ (get_or line p empty).front)
+    → ((p : ℕ) → p < 8 → get_or behind p nothing ≡ (get_or line p empty).spare) → LaidSlots t start ahead S S'
+    → LaidSlots t start behind S₂ S₂' → a ≡ old counts → b ≡ new counts → RanLine t start counts (both S S₂) (both S' S₂')
+ran_moved {t} {start} {S} {S₂} fronts spares ahead behind {line} {a} {b} {counts} few still f g m front spare l l₂ e e' =
     let on : (q : ℕ) → q < t.side → cells_of fronts spares q ≡ both S S₂ (start + q * t.stride) = λ q u. ap₂ (λ (x y : Rec). record { front = x; spare = y }) (f.is q u) (g.is q u) in
     record {
-      made = λ p h. ap₂ (λ (x y : Rec). record { front = x; spare = y }) (l.made p h) (l₂.made p h) ∙ m.made p (omega arith)
-          ∙ ap (settled t (cells_of fronts spares) p) n ∙ settled-gathered t (cells_of fronts spares) p t.side ∙ gathered-same t on p t.side (omega arith) ∙ sym (rw still);
+      made = λ p h. ap₂ (λ (x y : Rec). record { front = x; spare = y }) (l.made p h ∙ front p (omega arith)) (l₂.made p h ∙ spare p (omega arith))
+          ∙ m.made p (omega arith)
+          ∙ gathered-same t on p t.side (omega arith) ∙ sym (rw still);
       kept = λ j d. ap₂ (λ (x y : Rec). record { front = x; spare = y }) (l.kept j d) (l₂.kept j d);
       count = λ d h. ap (λ (k : List ℕ). get_or k d 0) (sym e') ∙ m.count d h
-          ∙ ap₂ (λ (k : List ℕ) (n : ℕ). get_or k d 0 + n) e (ap (λ (n : ℕ). sum n (λ k. went_of t d (k / 2) (slot_in (cells_of fronts spares) k))) n ∙ counted t (cells_of fronts spares) d ∙ sum_cong t.side (λ p u. ap (went_from t d p) (on p u)));
+          ∙ ap₂ (λ (k : List ℕ) (n : ℕ). get_or k d 0 + n) e (sum_cong t.side (λ p u. ap (went_from t d p) (on p u)));
     }
 
 -- a line that nothing leaves

@@ -15,7 +15,8 @@ use Rattle.array.specs.Cells.{groups, cells, group, place}
 use Rattle.array.proofs.Board.{Side, cell-group-place, place_in, group_in}
 use Rattle.slots.specs.declared.Cell.{Cell}
 use Rattle.mesh.specs.declared.Leg.{Leg}
-use Rattle.mesh.specs.Mesh.{stride_of, unit_of, line_rule_of, ran_on}
+use Rattle.array.specs.Moves.{stride_of}
+use Rattle.mesh.specs.Mesh.{unit_of, line_rule_of, ran_on}
 use Rattle.mesh.specs.Inside.{is_strided}
 use Rattle.mesh.proofs.Spots.{ran-part}
 use Rattle.mesh.proofs.Groups.{part_fits}

@@ -3,7 +3,7 @@ use Prim.Native.Nat.{ℕ, ◌-◌, ◌*◌, ◌/◌, ◌%◌, ◌<◌}
 use mathlib.Core.Path.{◌≡◌, sym, ap, ◌∙◌}
 use mathlib.Core.Bool.{Bool, true, false, cond}
 use mathlib.Core.Logic.{inl, inr, ⊎_elim}
-use native.Mathlib.Nat.{mod-lt, mul-pos}
+use native.Mathlib.Nat.{mul-pos}
 use native.Mathlib.Omega.{arith}
 use borrow.Author.Tests.{eq-eqb, ne_eqb, eqb-true}
 use lib.Dec.{ltb}
@@ -39,9 +39,6 @@ module _ (by : BoardRule) where
 
   pub digit_by : (x : ℕ) → x < 65536 → x * share % 4294967296 * t.side / 4294967296 ≡ digit_of t.side t.unit x
   digit_by x h = ap (λ (k : ℕ). x * k % 4294967296 * t.side / 4294967296) by.shared ∙ digit_told x t.side t.unit known.least by.unit period_pos by.few h
-
-  pub digit_in : (x : ℕ) → digit_of t.side t.unit x < t.side
-  digit_in x = mod-lt (x / t.unit) known.least
 
   -- a record leaves that goes at least one cell
   pub leaves-marked : (p : ℕ) (x : Rec) → (x.mark ≡ 0 → ⊥) → leaves t p x ≡ ltb 0 (gone_of t (cells_to_go t p (head_of t x)))

@@ -1,15 +1,17 @@
 -- The slots of a line, cell after cell: looked at, taken out of their lanes, laid back.
 use Prim.Native.Nat.{ℕ, zero, suc, ◌+◌, ◌*◌, ◌<◌}
-use mathlib.Core.Path.{◌≡◌, refl, sym, ◌∙◌}
+use mathlib.Core.Path.{◌≡◌, refl, sym, ap, ◌∙◌}
 use mathlib.Core.Logic.{⊎_elim}
 use mathlib.Core.Bool.{Bool, true, false, cond, not, ◌&&◌}
 use mathlib.Core.List.{List}
 use native.Mathlib.Nat.{suc-mul, mul-le-mul_right}
-use native.Mathlib.Numerals.{add-one}
 use native.Mathlib.Omega.{arith}
-use borrow.Author.Tests.{eq-eqb, ne_eqb, not-true, not-false}
+use borrow.Author.Tests.{eq-eqb, ne_eqb}
 use lib.Dec.{eqb}
 use lib.ListN.{length, get_or}
+use Rattle.std.specs.Bool.{MatchBool}
+use Rattle.std.specs.List.{range_with_len, HoldsAt, AllWithin}
+use Rattle.std.proofs.lemmas.List.FromFn.{length-range_with_len, get_or-range_with_len}
 use Rattle.laws.proofs.Deciding.{apart}
 use Rattle.slots.specs.declared.Rec.{Rec}
 use Rattle.slots.specs.Cells.{nothing}
@@ -39,20 +41,24 @@ leaves_some t S p e (suc n) h =
     none_after true = refl
     none_after false = refl
 
-pub leaves_none : (t : LineRule) (S : ℕ → Rec) (p : ℕ) → leaves t p (S p) ≡ false → none_leaves t S p ≡ true → none_leaves t S (p + 1) ≡ true
+leaves_all : (t : LineRule) (S : ℕ → Rec) (n : ℕ) → ((p : ℕ) → p < n → leaves t p (S p) ≡ false) → none_leaves t S n ≡ true
 unfolding none_leaves
-leaves_none t S p e f = rw (add-one, e, f)
+leaves_all t S zero e = refl
+leaves_all t S (suc n) e = rw (leaves_all t S n (λ p h. e p (omega arith)), e n (omega arith))
 
-pub leaves-start : (t : LineRule) (S : ℕ → Rec) → none_leaves t S 0 ≡ true
-unfolding none_leaves
-leaves-start t S = refl
+at_index : (n k : ℕ) → k < n → get_or (range_with_len 0 n) k 0 ≡ k
+at_index n k h = get_or-range_with_len 0 n k 0 h ∙ omega arith
 
--- of two slots the first is enough, and else the second tells
-pub told_first : (a b : Bool) {x : Bool} → x ≡ not a → x ≡ true → true ≡ not (a && b)
-told_first a b e f = rw (not-true a (sym e ∙ f))
-
-pub told_second : (a b : Bool) {x y : Bool} → x ≡ not a → x ≡ false → y ≡ not b → y ≡ not (a && b)
-told_second a b e f g = rw (not-false a (sym e ∙ f)) g
+-- what `any` tells of the cells of a line
+pub leaves_any : (t : LineRule) (S : ℕ → Rec) (n : ℕ) (r : Bool)
+    → MatchBool r ((k : ℕ) × (k < length (range_with_len 0 n)) × HoldsAt (λ p. leaves t p (S p) ≡ true) (range_with_len 0 n) k)
+    (AllWithin (λ p. leaves t p (S p) ≡ false) (range_with_len 0 n) 0 (length (range_with_len 0 n)))
+    → r ≡ not (none_leaves t S n)
+leaves_any t S n true (k, h, here) =
+    let u : k < n = omega (arith, h, length-range_with_len 0 n) in
+    sym (ap not (leaves_some t S k (rw (at_index n k u) at (here 0)) n u))
+leaves_any t S n false there =
+    sym (ap not (leaves_all t S n (λ p h. rw (at_index n p h) at (there p 0 (omega arith) (omega (arith, h, length-range_with_len 0 n))))))
 
 -- it is told by the marks and aims
 pub leaves-same : (t : LineRule) (S S' : ℕ → Rec) (n : ℕ) → ((p : ℕ) → p < n → ((S p).mark ≡ (S' p).mark) × ((S p).aim ≡ (S' p).aim)) → none_leaves t S n ≡ none_leaves t S' n
@@ -62,7 +68,6 @@ leaves-same t S S' (suc n) e = rw (leaves-same t S S' n (λ p h. e p (omega arit
 
 -- the slots of the first p cells were taken
 pub record Taking (t : LineRule) (start p : ℕ) (S : ℕ → Rec) (line : List Rec) : Type 0 where
-  pub long : length line ≡ 8
   pub is : (q : ℕ) → q < p → get_or line q nothing ≡ S (start + q * t.stride)
 
 pub laid_step : {t : LineRule} {start p : ℕ} {x S S' S'' : ℕ → Rec} {y : Rec} → 0 < t.stride → y ≡ x p → ((j : ℕ) → S'' j ≡ cond (eqb j (start + p * t.stride)) y (S' j))

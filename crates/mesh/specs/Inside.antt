@@ -1,5 +1,5 @@
 -- What private functions' contracts cite; the public contracts are read without it.
-use Rattle.std.specs.Prelude.{ℕ, zero, suc, ◌+◌, ◌-◌, ◌*◌, ◌/◌, ◌%◌, ◌≤◌, ◌<◌, min, ◌≡◌, Bool, true, false, cond, ◌⊎◌, ◌||◌, List, eqb, length, get_or}
+use Rattle.std.specs.Prelude.{ℕ, ◌+◌, ◌-◌, ◌*◌, ◌/◌, ◌≤◌, ◌<◌, min, ◌≡◌, Bool, cond, ◌⊎◌, ◌||◌, List, eqb, length, get_or}
 use Rattle.laws.specs.Lent.{Slice, Lent, old, new}
 use Rattle.laws.specs.Sums.{sum}
 use Rattle.array.specs.declared.lent.LentSlots.{LentSlots}
@@ -10,7 +10,7 @@ use Rattle.slots.specs.declared.Cell.{Cell}
 use Rattle.slots.specs.Cells.{nothing, empty, joined}
 use Rattle.mesh.specs.declared.lines.LineRule.{LineRule}
 use Rattle.mesh.specs.declared.lines.Arrival.{Arrival}
-use Rattle.mesh.specs.Lines.{reach, landed, ran_line, cells_to_go, went_of, went_from}
+use Rattle.mesh.specs.Lines.{reach, landed, gathered, ran_line, cells_to_go, went_of, went_from}
 use Rattle.mesh.specs.Mesh.{spot_of, ran_on}
 
 -- 2^32 over a period, and one: a 16-bit number times it tells, below 2^32, how far along its period the number is
@@ -44,7 +44,6 @@ moving_groups t = cond (eqb t.made 0) 0 (groups t.side)
 
 -- counts that leave room
 pub record Roomy (most : ℕ) (counts : Slice) : Type 0 where
-  pub long : length counts.now ≡ 8
   pub room : (d : ℕ) → d < 8 → get_or counts.now d 0 ≤ most
 
 -- the line from a cell on lies within the three lanes of a slot, and of both
@@ -61,11 +60,6 @@ pub record LinesIn (t : LineRule) (start : ℕ) (lanes : LentLanes) : Type 0 whe
 abbrev pub line_at : {A : Type 0} → LineRule → ℕ → (ℕ → A) → ℕ → A
 line_at t start T p = T (start + p * t.stride)
 
--- the record of a slot
-abbrev pub slot_of : Bool → Cell → Rec
-slot_of true c = c.spare
-slot_of false c = c.front
-
 -- the slots of a line were taken
 pub record Taken (t : LineRule) (start : ℕ) (S : ℕ → Rec) (r : List Rec) : Type 0 where
   pub is : (p : ℕ) → p < t.side → get_or r p nothing ≡ S (start + p * t.stride)
@@ -75,25 +69,22 @@ pub record Laid (t : LineRule) (start n : ℕ) (x : ℕ → Rec) (S S' : ℕ →
   pub made : (p : ℕ) → p < n → S' (start + p * t.stride) ≡ x p
   pub kept : (j : ℕ) → ((p : ℕ) → p < n → j ≡ start + p * t.stride → ⊥) → S' j ≡ S j
 
-abbrev pub LaidSlots : LineRule → ℕ → Bool → List Cell → (ℕ → Rec) → (ℕ → Rec) → Type 0
-LaidSlots t start spare line S S' = Laid t start t.side (λ p. slot_of spare (get_or line p empty)) S S'
+abbrev pub LaidSlots : LineRule → ℕ → List Rec → (ℕ → Rec) → (ℕ → Rec) → Type 0
+LaidSlots t start line S S' = Laid t start t.side (λ p. get_or line p nothing) S S'
 
 -- the cells of a line by its slots
 abbrev pub cells_of : List Rec → List Rec → ℕ → Cell
 cells_of fronts spares p = record { front = get_or fronts p nothing; spare = get_or spares p nothing }
 
--- slot k of a line, front and spare by turns, and the cell that it is of
-abbrev pub slot_in : (ℕ → Cell) → ℕ → Rec
-slot_in U k = slot_of (eqb (k % 2) 1) (U (k / 2))
+-- record x of cell p was put down, and counted if it went
+pub record PutDown (t : LineRule) (p : ℕ) (x : Rec) (counts counts' : List ℕ) (line line' : List Cell) : Type 0 where
+  pub made : (j : ℕ) → j < 8 → get_or line' j empty ≡ landed t j p x (get_or line j empty)
+  pub count : (d : ℕ) → d < 8 → get_or counts' d 0 ≡ get_or counts d 0 + went_of t d p x
 
--- cell j once the records of the first k slots are put down
-unfoldable pub settled : LineRule → (ℕ → Cell) → ℕ → ℕ → Cell
-settled t U j zero = empty
-settled t U j (suc k) = landed t j (k / 2) (slot_in U k) (settled t U j k)
-
-pub record PutDown (t : LineRule) (U : ℕ → Cell) (n : ℕ) (counts counts' : List ℕ) (line : List Cell) : Type 0 where
-  pub made : (j : ℕ) → j < 8 → get_or line j empty ≡ settled t U j n
-  pub count : (d : ℕ) → d < 8 → get_or counts' d 0 ≡ get_or counts d 0 + sum n (λ k. went_of t d (k / 2) (slot_in U k))
+-- the records of the first n cells of a line were
+pub record LinePutDown (t : LineRule) (U : ℕ → Cell) (n : ℕ) (counts counts' : List ℕ) (line : List Cell) : Type 0 where
+  pub made : (j : ℕ) → j < 8 → get_or line j empty ≡ gathered t U j n
+  pub count : (d : ℕ) → d < 8 → get_or counts' d 0 ≡ get_or counts d 0 + sum n (λ q. went_from t d q (U q))
 
 -- where a record of cell p goes that heads for cell h
 pub record Lands (t : LineRule) (p h : ℕ) (r : Arrival) : Type 0 where

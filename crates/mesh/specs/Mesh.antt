@@ -1,9 +1,9 @@
 -- A run of electronic moves on the whole board: every line of every group makes it.
-use Rattle.std.specs.Prelude.{ℕ, ◌+◌, ◌-◌, ◌*◌, ◌<◌, min, ◌≡◌, Bool, true, false, cond, List, get_or}
+use Rattle.std.specs.Prelude.{ℕ, ◌+◌, ◌-◌, ◌*◌, ◌<◌, min, ◌≡◌, Bool, true, false, cond, not, List, get_or}
 use Rattle.laws.specs.Sums.{sum}
 use Rattle.array.specs.declared.moves.Way.{Way}
-use Rattle.array.specs.declared.moves.Way.TheVariants.{Right, Left, Up, Down}
 use Rattle.array.specs.Cells.{groups, cells}
+use Rattle.array.specs.Moves.{is_forth, stride_of}
 use Rattle.array.specs.Lent.{PassedLanes, of_lanes}
 use Rattle.laws.specs.Lent.{Lent}
 use Rattle.light.specs.Lanes.{have_board}
@@ -13,29 +13,16 @@ use Rattle.mesh.specs.declared.lines.LineRule.{LineRule}
 use Rattle.mesh.specs.declared.Leg.{Leg}
 use Rattle.mesh.specs.Lines.{digit_of, ran_line, goes_at, went_from}
 
--- from one cell of a line to the next: along a row, or down a column
-abbrev pub stride_of : ℕ → Way → ℕ
-stride_of s Right = 1
-stride_of s Left = 1
-stride_of s Up = s
-stride_of s Down = s
-
 -- the weight of the digit of an aim that names a cell of a line. A record heads for its aim mod N, whose digits weigh as those of a place, or for its aim div N
 abbrev pub unit_of : ℕ → Bool → ℕ → ℕ
 unit_of s low stride = cond low stride (stride * groups s)
 
 -- whether a way goes up its line, to greater columns or rows, or down it
 abbrev pub goes_up : Way → Bool
-goes_up Right = true
-goes_up Left = false
-goes_up Up = false
-goes_up Down = true
+goes_up w = is_forth w
 
 abbrev pub goes_down : Way → Bool
-goes_down Right = false
-goes_down Left = true
-goes_down Up = true
-goes_down Down = false
+goes_down w = not (is_forth w)
 
 -- the rule of a leg
 abbrev pub line_rule_of : Leg → LineRule

@@ -8,7 +8,7 @@ ghost use Rattle.std.specs.Prelude.{◌≡◌, ℕ, ◌+◌, ◌*◌, ◌≤◌,
 ghost use Rattle.array.specs.Cells.{is_side, groups, cells};
 ghost use Rattle.array.specs.Lent.{SameSlots, SameLanes};
 ghost use Rattle.slots.specs.Lanes.{FromTo, Long, cells_in, lent_cells, LongSlots, LongLent};
-ghost use Rattle.mesh.specs.Mesh.{stride_of, unit_of, goes_up, goes_down, line_rule_of, RanAllLent};
+ghost use Rattle.mesh.specs.Mesh.{unit_of, line_rule_of, RanAllLent};
 ghost use Rattle.mesh.specs.Inside.{share_of, Roomy, line_step, moving_groups, RanGroup, RanPart};
 
 use crate::lines::{BoardRule, LineRule, run_line};
@@ -27,29 +27,6 @@ pub struct Leg {
     pub made: usize,
 }
 
-// From one cell of a line to the next.
-fn stride(side: usize, way: Way) -> usize
-    requires { (1 ≤ side) × (side ≤ 8) }
-    ensures { (result ≡ stride_of side way) × (result ≤ 8) }
-{
-    match way {
-        Way::Right | Way::Left => 1,
-        Way::Up | Way::Down => side,
-    }
-}
-
-fn goes_up(way: Way) -> bool
-    ensures { result ≡ goes_up way }
-{
-    matches!(way, Way::Right | Way::Down)
-}
-
-fn goes_down(way: Way) -> bool
-    ensures { result ≡ goes_down way }
-{
-    matches!(way, Way::Left | Way::Up)
-}
-
 // The weight of the digit of an aim that names a cell of a line.
 fn unit(side: usize, low: bool, stride: usize) -> usize
     requires { (side ≤ 8) × (stride ≤ 8) }
@@ -63,14 +40,14 @@ fn rule_of(leg: Leg) -> LineRule
     requires { (1 ≤ leg.side) × (leg.side ≤ 8) }
     ensures { result ≡ line_rule_of leg }
 {
-    let way = leg.way;
-    let stride = stride(leg.side, way);
+    let stride = leg.way.stride(leg.side);
+    let up = leg.way.is_forth();
     LineRule {
         side: leg.side,
         stride,
         unit: unit(leg.side, leg.low, stride),
-        up: goes_up(way),
-        down: goes_down(way),
+        up,
+        down: !up,
         late: leg.late,
         times: leg.times,
         made: leg.made.min(leg.times),
@@ -116,7 +93,7 @@ fn moving_groups(t: LineRule) -> usize
 }
 
 // All lines of a group, of lanes that are its own.
-fn run_lines(by: BoardRule, counts: &mut [usize], lanes: &mut LentLanes)
+fn run_lines(by: BoardRule, counts: &mut [usize; 8], lanes: &mut LentLanes)
     requires roomy { Roomy 16384 counts }
     requires long { LongLent (groups by.rule.side) lanes.old }
     ensures same { SameLanes lanes.old lanes.new }
@@ -131,7 +108,7 @@ fn run_lines(by: BoardRule, counts: &mut [usize], lanes: &mut LentLanes)
 // The same, where the group's own stretch of each lane is lent.
 fn run_group(
     by: BoardRule,
-    counts: &mut [usize],
+    counts: &mut [usize; 8],
     words: &mut [u32],
     marks: &mut [u8],
     aims: &mut [u16],
@@ -160,7 +137,7 @@ fn run_group(
 fn run_stretch(
     by: BoardRule,
     base: usize,
-    counts: &mut [usize],
+    counts: &mut [usize; 8],
     words: &mut [u32],
     marks: &mut [u8],
     aims: &mut [u16],
@@ -191,7 +168,7 @@ fn run_stretch(
 fn run_part(
     by: BoardRule,
     base: usize,
-    counts: &mut [usize],
+    counts: &mut [usize; 8],
     front: &mut LentSlots,
     spare: &mut LentSlots,
 )
@@ -229,7 +206,7 @@ pub fn run_all(leg: Leg, lanes: &mut LentLanes) -> [usize; 8]
     let by = board_rule(leg);
     let size = by.rule.side * by.rule.side;
     for g in 0..moving_groups(by.rule) {
-        run_part(by, g * size, &mut counts[..], lanes.front, lanes.spare);
+        run_part(by, g * size, &mut counts, lanes.front, lanes.spare);
     }
     counts
 }

@@ -5,9 +5,9 @@ ghost use Rattle.array.specs.Cells.{is_side};
 ghost use Rattle.array.specs.Lent.{SameLanes};
 ghost use Rattle.slots.specs.Lanes.{lent_cells};
 ghost use Rattle.mesh.specs.Lines.{digit_of, cells_to_go, leaves, is_still};
-ghost use Rattle.mesh.specs.Inside.{share_of, is_strided, gone_of, cells_of, line_at, LinesIn, Roomy, Lands, PutDown, RanLine};
+ghost use Rattle.mesh.specs.Inside.{share_of, is_strided, gone_of, cells_of, line_at, LinesIn, Roomy, Lands, PutDown, LinePutDown, RanLine};
 
-use crate::cells::{any_goes, lay_slots, slot, take_slots};
+use crate::cells::{any_goes, lay_slots, take_slots};
 use array::lent::LentLanes;
 use slots::{Cell, Rec, empty, joined};
 
@@ -106,28 +106,29 @@ pub(crate) fn goes(by: BoardRule, p: usize, mark: u8, aim: u16) -> bool
     0 < gone(by.rule, distance(by.rule, p, digit(by, aim)))
 }
 
-// The line after all moves of the run, of the records in its front slots and in its spare ones: each is put down where its moves take it, and
-// those that went are counted by the cells that they had to go.
-fn put_line(by: BoardRule, fronts: [Rec; 8], spares: [Rec; 8], counts: &mut [usize]) -> [Cell; 8]
+// A record of cell p is put down where its moves take it, and counted by the cells that it had to go, if it went.
+fn put_down(by: BoardRule, p: usize, x: Rec, line: &mut [Cell; 8], counts: &mut [usize; 8])
+    requires on_line { p < by.rule.side }
+    requires roomy { Roomy 65552 counts }
+    ensures { PutDown by.rule p x counts.old counts.new line.old line.new }
+{
+    if x.mark != 0 {
+        let Arrival { far, at, went } = landing(by, p, digit(by, x.aim));
+        counts[far] += went;
+        line[at] = joined(line[at], x);
+    }
+}
+
+// The line after all moves of the run, of the records in its front slots and in its spare ones.
+fn put_line(by: BoardRule, fronts: [Rec; 8], spares: [Rec; 8], counts: &mut [usize; 8]) -> [Cell; 8]
     requires { Roomy 65536 counts }
-    ensures { PutDown by.rule (cells_of fronts spares) (2 * by.rule.side) counts.old counts.new result }
+    ensures { LinePutDown by.rule (cells_of fronts spares) by.rule.side counts.old counts.new result }
 {
     let none = empty();
     let mut line = [none; 8];
-    for k in 0..2 * by.rule.side {
-        let p = k / 2;
-        let own = Cell {
-            front: fronts[p],
-            spare: spares[p],
-        };
-        let x = slot(k % 2 == 1, own);
-        if x.mark != 0 {
-            let arrival = landing(by, p, digit(by, x.aim));
-            let far = arrival.far;
-            let at = arrival.at;
-            counts[far] += arrival.went;
-            line[at] = joined(line[at], x);
-        }
+    for p in 0..by.rule.side {
+        put_down(by, p, fronts[p], &mut line, counts);
+        put_down(by, p, spares[p], &mut line, counts);
     }
     line
 }
@@ -141,7 +142,7 @@ fn line_goes(by: BoardRule, start: usize, lanes: &LentLanes) -> bool
 }
 
 // All moves of the run on the line that starts at a cell. A line that nothing leaves is left alone.
-pub(crate) fn run_line(by: BoardRule, start: usize, counts: &mut [usize], lanes: &mut LentLanes)
+pub(crate) fn run_line(by: BoardRule, start: usize, counts: &mut [usize; 8], lanes: &mut LentLanes)
     requires lines { LinesIn by.rule start lanes.old }
     requires roomy { Roomy 65536 counts }
     ensures same { SameLanes lanes.old lanes.new }
@@ -151,7 +152,7 @@ pub(crate) fn run_line(by: BoardRule, start: usize, counts: &mut [usize], lanes:
         let fronts = take_slots(by, start, lanes.front);
         let spares = take_slots(by, start, lanes.spare);
         let line = put_line(by, fronts, spares, counts);
-        lay_slots(by, start, false, line, lanes.front);
-        lay_slots(by, start, true, line, lanes.spare);
+        lay_slots(by, start, line.map(|own| own.front), lanes.front);
+        lay_slots(by, start, line.map(|own| own.spare), lanes.spare);
     }
 }

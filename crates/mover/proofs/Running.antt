@@ -1,13 +1,13 @@
 -- A list of runs as it is made: what is left of the list leads from the cells and the log as they are to those of the whole.
-use Prim.Native.Nat.{ℕ, suc, ◌+◌, ◌-◌, ◌*◌, ◌≤◌, ◌<◌, min}
-use mathlib.Core.Path.{◌≡◌, refl, sym, ap, ap₂, subst, ◌∙◌}
+use Prim.Native.Nat.{ℕ, zero, suc, ◌+◌, ◌-◌, ◌*◌, ◌≤◌, ◌<◌, min}
+use mathlib.Core.Path.{◌≡◌, refl, sym, ap, ap₂, ◌∙◌}
 use mathlib.Core.Bool.{Bool, true, false, cond}
 use mathlib.Core.List.{List, [], ◌∷◌, ◌++◌}
 use native.Mathlib.Numerals.{add-one}
 use native.Mathlib.Omega.{arith}
 use borrow.Author.Tests.{ne_eqb}
 use lib.Dec.{eqb}
-use lib.ListN.{length, get_or, set, drop, drop_of_length-le}
+use lib.ListN.{length, get_or, set, drop, replicate, drop_of_length-le}
 use lib.Seq.{sets, drop-cons}
 use Rattle.laws.specs.Sums.{sum}
 use Rattle.laws.specs.Tables.{entries}
@@ -15,7 +15,6 @@ use Rattle.laws.proofs.Sums.{sum_cong}
 use Rattle.laws.proofs.Totals.{sum_zero}
 use Rattle.laws.proofs.Tables.{length-entries, entry_at, entries_cong}
 use Rattle.laws.proofs.Stores.{Storing, storing_next, storing_all, sets-append}
-use Rattle.array.specs.declared.moves.Way.TheVariants.{Right}
 use Rattle.array.specs.declared.moves.Move.{Move}
 use Rattle.array.specs.declared.moves.Move.TheVariants.{Swap, Electronic}
 use Rattle.array.specs.Cells.{is_side, cells}
@@ -26,13 +25,12 @@ use Rattle.lists.specs.declared.Trip.{Trip}
 use Rattle.slots.specs.declared.Cell.{Cell}
 use Rattle.mesh.specs.declared.Leg.{Leg}
 use Rattle.mesh.specs.Lines.{goes_at, goes_in}
-use Rattle.mesh.specs.Mesh.{line_rule_of, spot_of, ran_on, gone_in, RanLanes}
-use Rattle.mesh.proofs.Groups.{ran-nothing as leg_nothing, went_nothing}
-use Rattle.mesh.proofs.Legs.{stride-pos, ran-same}
+use Rattle.mesh.specs.Mesh.{line_rule_of, spot_of, gone_in}
+use Rattle.mesh.proofs.Legs.{ran-same}
 use Rattle.mesh.proofs.Counting.{gone_by_went, gone-made, gone_few, went_few}
 use Rattle.mover.specs.declared.Tally.{Tally}
 use Rattle.mover.specs.Runs.{is_late, leg_of, swapped, ran_by, gone_by, made_of, after, moved_log, Ran}
-use Rattle.mover.specs.Inside.{leg_in, movers, tallied, FewWent, leaving, Made, MadeRun, RanRun}
+use Rattle.mover.specs.Inside.{movers, tallied, FewWent, leaving, Made, MadeRun, RanRun}
 use Rattle.mover.proofs.Swapping.{leaving_few, leaving-same, leaving-swaps, swaps-same}
 
 -- counts put into the log, from a place on
@@ -75,46 +73,36 @@ adding_next went {j} {d} {count} {x} {b} h f e g z =
       few = omega (arith, z.few, g, few_cond b (get_or went d 0), f.few d h);
     })
 
--- a run by what the mesh and the light say of it
-pub made_run : (trip : Trip) (s swaps : ℕ) (r : Run) {k m n : ℕ} {lanes : Bool} {T C T' : ℕ → Cell} {went : List ℕ} {count : ℕ} → is_side s ≡ true → lanes ≡ true
-    → m ≡ made_of r k → n ≡ swaps_in r.step m → RanLanes lanes (line_rule_of (leg_in trip s swaps r.step r.times m)) went T C
-    → ((i : ℕ) → i < cells s → T' i ≡ swapped s n C i) → count ≡ cond (eqb n 0) 0 (leaving s C)
-    → MadeRun trip s swaps r k (record { made = m; swaps = n; went = went; swapped = count }) T T'
-made_run trip s swaps r {n = n} side on e f z q c = record {
+-- a run of swaps by what the light says of it
+pub made_swaps : (trip : Trip) (s swaps : ℕ) (r : Run) {k m : ℕ} {T T' : ℕ → Cell} {went : List ℕ} {count : ℕ}
+    → r.step ≡ Swap → m ≡ made_of r k → went ≡ replicate 8 0
+    → ((i : ℕ) → i < cells s → T' i ≡ swapped s m T i) → count ≡ cond (eqb m 0) 0 (leaving s T)
+    → MadeRun trip s swaps r k (record { made = m; swaps = m; went = went; swapped = count }) T T'
+made_swaps trip s swaps r x e w q c = record {
   upto = e;
-  swaps-made = f;
-  moved = record {
-    made = λ i h. q i h ∙ swaps-same s (side_known s side).least n (z.made on) i h;
-    went = z.went on;
-    leaves = c ∙ ap (cond (eqb n 0) 0) (leaving-same s (z.made on));
-  };
+  swaps-made = rw x refl;
+  moved = rw x (record { made = q; went = λ d h. ap (λ (l : List ℕ). get_or l d 0) w ∙ all_none 8 d; leaves = c });
 }
+  where
+    all_none : (n d : ℕ) → ◌≡◌ {A = ℕ} (get_or (replicate n 0) d 0) 0
+    all_none zero d = refl
+    all_none (suc n) zero = refl
+    all_none (suc n) (suc d) = all_none n d
 
 -- a run of so many moves, of whatever kind
 module _ (trip : Trip) (s : ℕ) (side : is_side s ≡ true) (swaps times m : ℕ) (within : m ≤ times) (T : ℕ → Cell) where
-  pos : 0 < s
-  pos = (side_known s side).least
-
-  -- the leg of a run of swaps, which does nothing
-  abbrev idle : Leg
-  idle = leg_of trip s swaps Right times 0
-
-  none : (line_rule_of idle).made ≡ 0
-  none = omega arith
-
-  idle-ran : (i : ℕ) → ran_on (line_rule_of idle) T i ≡ T i
-  idle-ran i = leg_nothing (line_rule_of idle) none T i pos (stride-pos (side_known s side) Right)
-
-  pub counts_are : (x : Move) {t : Tally} {T' : ℕ → Cell} → Made (leg_in trip s swaps x times m) (swaps_in x m) t T T' → (j : ℕ) → j < m → tallied (is_late trip) times t j ≡ gone_by trip s swaps x times j T
-  counts_are (Electronic w) {t} z j h =
+  pub counts_are : (x : Move) (t : Tally) (T' : ℕ → Cell) → Made trip s swaps x times m t T T'
+      → (j : ℕ) → j < m → tallied (is_late trip) times t j ≡ gone_by trip s swaps x times j T
+  counts_are (Electronic w) t T' z j h =
       let l = leg_of trip s swaps w times m in
       let e : movers (is_late trip) times t.went j ≡ gone_in (line_rule_of l) j T =
       sum_cong 8 (λ d u. ap (λ (n : ℕ). cond (goes_in (is_late trip) times j d) n 0) (z.went d u)) ∙ sym (gone_by_went l j T side h within) in
       omega (arith, e, z.leaves, gone-made l times j T)
-  counts_are Swap {t} z j h =
+  counts_are Swap t T' z j h =
       let e : movers (is_late trip) times t.went j ≡ 0 =
-      sum_zero (λ d. cond (goes_in (is_late trip) times j d) (get_or t.went d 0) 0) 8 (λ d u. few_zero (goes_in (is_late trip) times j d) (z.went d u ∙ went_nothing (line_rule_of idle) none d T)) in
-      let f : t.swapped ≡ leaving s T = z.leaves ∙ rw (ne_eqb m 0 (λ u. omega arith)) (leaving-same s (λ i u. idle-ran i)) in
+      sum_zero (λ d. cond (goes_in (is_late trip) times j d) (get_or t.went d 0) 0) 8
+      (λ d u. few_zero (goes_in (is_late trip) times j d) (z.went d u)) in
+      let f : t.swapped ≡ leaving s T = z.leaves ∙ rw (ne_eqb m 0 (λ u. omega arith)) refl in
       omega (arith, e, f, leaving-swaps s side j T)
     where
       few_zero : (b : Bool) {n : ℕ} → n ≡ 0 → cond b n 0 ≡ 0
@@ -125,17 +113,24 @@ module _ (trip : Trip) (s : ℕ) (side : is_side s ≡ true) (swaps times m : �
   gone_most Swap j = leaving_few s side (swapped s j T)
   gone_most (Electronic w) j = omega (arith, gone_few (leg_of trip s swaps w times times) j T, (side_known s side).cells_few)
 
-  pub counts_few : (x : Move) {t : Tally} {T' : ℕ → Cell} → Made (leg_in trip s swaps x times m) (swaps_in x m) t T T' → (j : ℕ) → j < m → tallied (is_late trip) times t j ≤ 65535
-  counts_few x {t} z j h = omega (arith, counts_are x z j h, gone_most x j)
+  pub counts_few : (x : Move) (t : Tally) (T' : ℕ → Cell) → Made trip s swaps x times m t T T'
+      → (j : ℕ) → j < m → tallied (is_late trip) times t j ≤ 65535
+  counts_few x t T' z j h = omega (arith, counts_are x t T' z j h, gone_most x j)
 
-  made_are : (x : Move) {t : Tally} {T' : ℕ → Cell} → Made (leg_in trip s swaps x times m) (swaps_in x m) t T T' → (i : ℕ) → i < cells s → T' i ≡ ran_by trip s swaps x times m T i
-  unfolding swapped
-  made_are (Electronic w) z i h = z.made i h
-  made_are Swap z i h = z.made i h ∙ swaps-same s pos m (λ i u. idle-ran i) i h
+  made_are : (x : Move) (t : Tally) (T' : ℕ → Cell) → Made trip s swaps x times m t T T'
+      → (i : ℕ) → i < cells s → T' i ≡ ran_by trip s swaps x times m T i
+  made_are (Electronic w) t T' z = z.made
+  made_are Swap t T' z = z.made
 
-  pub run_made : (x : Move) {t : Tally} {T' : ℕ → Cell} {from : ℕ} {moved moved' : List ℕ} → Made (leg_in trip s swaps x times m) (swaps_in x m) t T T'
+  pub went_few_in : (x : Move) (t : Tally) (T' : ℕ → Cell) → Made trip s swaps x times m t T T' → FewWent t.went
+  went_few_in (Electronic w) t T' z = record {
+    few = λ d h. omega (arith, z.went d h, went_few (leg_of trip s swaps w times m) d T, (side_known s side).cells_few);
+  }
+  went_few_in Swap t T' z = record { few = λ d h. omega (arith, z.went d h) }
+
+  pub run_made : (x : Move) (t : Tally) (T' : ℕ → Cell) {from : ℕ} {moved moved' : List ℕ} → Made trip s swaps x times m t T T'
       → moved' ≡ sets moved from (entries (tallied (is_late trip) times t) 0 m) → RanRun trip s swaps x times m from T T' moved moved'
-  run_made x {t} {from = from} {moved} z e = record { made = made_are x z; log = e ∙ ap (sets moved from) (entries_cong m (counts_are x z)) }
+  run_made x t T' {from} {moved} z e = record { made = made_are x t T' z; log = e ∙ ap (sets moved from) (entries_cong m (counts_are x t T' z)) }
 
 gone_cong : (l : Leg) (j : ℕ) {T U : ℕ → Cell} → ((i : ℕ) → i < cells l.side → T i ≡ U i) → gone_in (line_rule_of l) j T ≡ gone_in (line_rule_of l) j U
 gone_cong l j e =
@@ -202,21 +197,18 @@ module _ {trip : Trip} {s swaps k : ℕ} {r : Run} {t : Tally} {C C' : ℕ → C
   made_few : t.made ≤ r.times
   made_few = omega (arith, y.upto)
 
-  as_many : Made (leg_in trip s swaps r.step r.times t.made) (swaps_in r.step t.made) t C C'
-  as_many = subst (λ (n : ℕ). Made (leg_in trip s swaps r.step r.times t.made) n t C C') y.swaps-made y.moved
-
   pub run_few : (t.made ≤ k) × (t.swaps ≤ t.made)
   run_few = (omega (arith, y.upto), omega (arith, y.swaps-made, few_swaps r.step t.made))
 
   pub run_went : FewWent t.went
-  run_went = record { few = λ d h. omega (arith, as_many.went d h, went_few (leg_in trip s swaps r.step r.times t.made) d C, (side_known s side).cells_few) }
+  run_went = went_few_in trip s side swaps r.times t.made made_few C r.step t C' y.moved
 
   pub run_counts : (j : ℕ) → j < t.made → tallied (is_late trip) r.times t j ≤ 65535
-  run_counts j h = counts_few trip s side swaps r.times t.made made_few C r.step as_many j h
+  run_counts j h = counts_few trip s side swaps r.times t.made made_few C r.step t C' y.moved j h
 
   pub run_logged : {from : ℕ} {moved moved' : List ℕ} → moved' ≡ sets moved from (entries (tallied (is_late trip) r.times t) 0 t.made)
       → RanRun trip s swaps r.step r.times t.made from C C' moved moved'
-  run_logged e = run_made trip s side swaps r.times t.made made_few C r.step as_many e
+  run_logged e = run_made trip s side swaps r.times t.made made_few C r.step t C' y.moved e
 
 pub running_next : {trip : Trip} {s : ℕ} (rs : List Run) {n q done swaps : ℕ} {T C C' : ℕ → Cell} {moved now₁ now₂ : List ℕ} {t : Tally} (d : Run) → is_side s ≡ true → q < length rs
     → MadeRun trip s swaps (get_or rs q d) (n - done) t C C' → now₂ ≡ sets now₁ done (entries (tallied (is_late trip) (get_or rs q d).times t) 0 t.made)

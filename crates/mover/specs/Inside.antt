@@ -3,13 +3,11 @@ use Rattle.std.specs.Prelude.{ℕ, ◌+◌, ◌≤◌, ◌<◌, ◌≡◌, Bool,
 use Rattle.std.proofs.lemmas.List.Edits.{sets}
 use Rattle.laws.specs.Sums.{sum}
 use Rattle.laws.specs.Tables.{entries}
-use Rattle.array.specs.declared.moves.Way.{Way}
-use Rattle.array.specs.declared.moves.Way.TheVariants.{Right}
 use Rattle.array.specs.declared.moves.Move.{Move}
 use Rattle.array.specs.declared.moves.Move.TheVariants.{Swap, Electronic}
 use Rattle.array.specs.Cells.{cells, partner}
 use Rattle.runs.specs.declared.Run.{Run}
-use Rattle.runs.specs.Runs.{electronic_in, swaps_in}
+use Rattle.runs.specs.Runs.{swaps_in}
 use Rattle.lists.specs.declared.Trip.{Trip}
 use Rattle.slots.specs.declared.Cell.{Cell}
 use Rattle.slots.specs.Cells.{marks_in}
@@ -18,15 +16,6 @@ use Rattle.mesh.specs.Lines.{goes_in}
 use Rattle.mesh.specs.Mesh.{line_rule_of, ran_on, went_in}
 use Rattle.mover.specs.declared.Tally.{Tally}
 use Rattle.mover.specs.Runs.{leg_of, swapped, ran_by, gone_by, made_of}
-
--- the way of an electronic move; of a swap any
-abbrev pub way_of : Move → Way
-way_of Swap = Right
-way_of (Electronic w) = w
-
--- the electronic moves of a run of which the first m moves are made
-abbrev pub leg_in : Trip → ℕ → ℕ → Move → ℕ → ℕ → Leg
-leg_in trip s swaps x times m = leg_of trip s swaps (way_of x) times (electronic_in x m)
 
 -- how many records go in move j, by how far those had to go that went
 abbrev pub movers : Bool → ℕ → List ℕ → ℕ → ℕ
@@ -44,17 +33,28 @@ pub record FewWent (went : List ℕ) : Type 0 where
 abbrev pub leaving : ℕ → (ℕ → Cell) → ℕ
 leaving s T = sum (cells s) (λ i. cond (eqb (partner s i) i) 0 (marks_in (T i)))
 
--- the moves of a leg and then n swaps were made, and tallied
-pub record Made (l : Leg) (n : ℕ) (t : Tally) (T T' : ℕ → Cell) : Type 0 where
-  pub made : (i : ℕ) → i < cells l.side → T' i ≡ swapped l.side n (ran_on (line_rule_of l) T) i
+-- m swaps were made, and tallied
+pub record MadeSwaps (s m : ℕ) (t : Tally) (T T' : ℕ → Cell) : Type 0 where
+  pub made : (i : ℕ) → i < cells s → T' i ≡ swapped s m T i
+  pub went : (d : ℕ) → d < 8 → get_or t.went d 0 ≡ 0
+  pub leaves : t.swapped ≡ cond (eqb m 0) 0 (leaving s T)
+
+-- the moves of a leg were
+pub record MadeLeg (l : Leg) (t : Tally) (T T' : ℕ → Cell) : Type 0 where
+  pub made : (i : ℕ) → i < cells l.side → T' i ≡ ran_on (line_rule_of l) T i
   pub went : (d : ℕ) → d < 8 → get_or t.went d 0 ≡ went_in (line_rule_of l) d T
-  pub leaves : t.swapped ≡ cond (eqb n 0) 0 (leaving l.side (ran_on (line_rule_of l) T))
+  pub leaves : t.swapped ≡ 0
+
+-- the first m moves of a run of so many were
+abbrev pub Made : Trip → (s swaps : ℕ) → Move → (times m : ℕ) → Tally → (T T' : ℕ → Cell) → Type 0
+Made trip s swaps Swap times m t T T' = MadeSwaps s m t T T'
+Made trip s swaps (Electronic w) times m t T T' = MadeLeg (leg_of trip s swaps w times m) t T T'
 
 -- those of run r were, as far as the k moves go that are left of the list
 pub record MadeRun (trip : Trip) (s swaps : ℕ) (r : Run) (k : ℕ) (t : Tally) (T T' : ℕ → Cell) : Type 0 where
   pub upto : t.made ≡ made_of r k
   pub swaps-made : t.swaps ≡ swaps_in r.step t.made
-  pub moved : Made (leg_in trip s swaps r.step r.times t.made) t.swaps t T T'
+  pub moved : Made trip s swaps r.step r.times t.made t T T'
 
 -- the first m moves of a run were made, and logged from a place on
 pub record RanRun (trip : Trip) (s swaps : ℕ) (x : Move) (times m from : ℕ) (T T' : ℕ → Cell) (moved moved' : List ℕ) : Type 0 where

@@ -9,15 +9,15 @@ ghost use Rattle.array.specs.Cells.{is_side, cells};
 ghost use Rattle.array.specs.Lent.{SameLanes};
 ghost use Rattle.slots.specs.Lanes.{lent_cells, LongLent};
 ghost use Rattle.mesh.specs.Lines.{goes_in};
-ghost use Rattle.mover.specs.Runs.{low_after, is_late, RanListLent};
-ghost use Rattle.mover.specs.Inside.{way_of, leg_in, movers as movers_of, tallied, FewWent, MadeRun};
+ghost use Rattle.mover.specs.Runs.{low_after, is_late, leg_of, RanListLent};
+ghost use Rattle.mover.specs.Inside.{movers as movers_of, tallied, FewWent, MadeRun};
 
 use array::lent::LentLanes;
 use array::moves::{Move, Way};
 use light::swap_lanes;
 use lists::Trip;
 use mesh::{Leg, run_all};
-use runs::{Run, electronic_in, swaps_in};
+use runs::Run;
 
 // Whether a record heads for its aim mod N after so many swaps.
 fn low_after(trip: Trip, swaps: usize) -> bool
@@ -38,27 +38,17 @@ fn is_late(trip: Trip) -> bool
     }
 }
 
-// The way of an electronic move; of a swap any.
-fn way_of(step: Move) -> Way
-    ensures { result ≡ way_of step }
-{
-    match step {
-        Move::Swap => Way::Right,
-        Move::Electronic(way) => way,
-    }
-}
-
-// The electronic moves of a run of which so many moves are made.
-fn leg_of(trip: Trip, side: usize, swaps: usize, run: Run, made: usize) -> Leg
-    ensures { result ≡ leg_in trip side swaps run.step run.times made }
+// A run one way of which so many moves are made.
+fn leg_of(trip: Trip, side: usize, swaps: usize, way: Way, times: usize, made: usize) -> Leg
+    ensures { result ≡ leg_of trip side swaps way times made }
 {
     Leg {
         side,
-        way: way_of(run.step),
+        way,
         low: low_after(trip, swaps),
         late: is_late(trip),
-        times: run.times,
-        made: electronic_in(run.step, made),
+        times,
+        made,
     }
 }
 
@@ -79,9 +69,9 @@ fn movers(late: bool, times: usize, went: [usize; 8], j: usize) -> usize
     ensures { result ≡ movers_of late times went j }
 {
     let mut count: usize = 0;
-    for d in 0..8 {
+    for (d, &n) in went.iter().enumerate() {
         if goes_in(late, times, j, d) {
-            count += went[d];
+            count += n;
         }
     }
     count
@@ -121,8 +111,7 @@ fn log_run(trip: Trip, times: usize, from: usize, tally: Tally, moved: &mut [u16
     }
 }
 
-// The first moves of a run, where so many swaps were made before: as many as remain to be made. They are its electronic moves, and its swaps;
-// one of the two there are none of.
+// The first moves of a run, where so many swaps were made before: as many as remain to be made.
 fn make_run(
     trip: Trip,
     side: usize,
@@ -137,14 +126,19 @@ fn make_run(
     ensures made { MadeRun trip side swaps run remaining result (lent_cells lanes.old) (lent_cells lanes.new) }
 {
     let made = run.times.min(remaining);
-    let n = swaps_in(run.step, made);
-    let went = run_all(leg_of(trip, side, swaps, run, made), lanes);
-    let swapped = swap_lanes(side, n, lanes);
-    Tally {
-        made,
-        swaps: n,
-        went,
-        swapped,
+    match run.step {
+        Move::Swap => Tally {
+            made,
+            swaps: made,
+            went: [0; 8],
+            swapped: swap_lanes(side, made, lanes),
+        },
+        Move::Electronic(way) => Tally {
+            made,
+            swaps: 0,
+            went: run_all(leg_of(trip, side, swaps, way, run.times, made), lanes),
+            swapped: 0,
+        },
     }
 }
 

@@ -13,8 +13,8 @@ ghost use Rattle.otis.specs.Outcomes.{outcome_of};
 use answers::{Answer, Refusal};
 use array::lent::{LentLanes, LentSlots};
 use captures::{Replayed, replay};
+use lists::Trip;
 use ranking::rank;
-use records::{concentrate, distribute};
 
 // The version of what C sees here. It is raised, with OTIS_VERSION in the header, whenever a parameter or the answer changes.
 #[unsafe(no_mangle)]
@@ -55,7 +55,7 @@ pub extern "C" fn otis_concentrate(
         front: &mut front,
         spare: &mut spare,
     };
-    concentrate(side, &mut lanes, codes, moved).into()
+    records::run(Trip::Concentrate, side, &mut lanes, codes, moved).into()
 }
 
 #[unsafe(no_mangle)]
@@ -82,7 +82,7 @@ pub extern "C" fn otis_distribute(
         front: &mut front,
         spare: &mut spare,
     };
-    distribute(side, &mut lanes, codes, moved).into()
+    records::run(Trip::Distribute, side, &mut lanes, codes, moved).into()
 }
 
 // The final table at once, without moves and without logs.
@@ -115,7 +115,7 @@ pub extern "C" fn otis_plain_concentrate(
         front: &mut front,
         spare: &mut spare,
     };
-    plainrecords::concentrate(side, &mut lanes).into()
+    plainrecords::run(Trip::Concentrate, side, &mut lanes).into()
 }
 
 #[unsafe(no_mangle)]
@@ -140,7 +140,7 @@ pub extern "C" fn otis_plain_distribute(
         front: &mut front,
         spare: &mut spare,
     };
-    plainrecords::distribute(side, &mut lanes).into()
+    plainrecords::run(Trip::Distribute, side, &mut lanes).into()
 }
 
 // What C gets of a replay: 0 agrees, 1 differs, 2 early or 3 refused; the move; and the number and the place of a refusal.

@@ -10,12 +10,11 @@ use Rattle.array.specs.Cells.{is_side, cells}
 use Rattle.array.proofs.Board.{side_known}
 use Rattle.lists.specs.declared.Trip.{Trip}
 use Rattle.lists.specs.Lists.{prefix_sum_runs, runs_of}
-use Rattle.lists.proofs.Counts.{prefix_sum-electronic}
 use Rattle.answers.specs.declared.Answer.{Answer}
 use Rattle.answers.specs.declared.Moves.{Moves}
 use Rattle.answers.specs.Answers.{Case}
 use Rattle.answers.specs.Answers.{accepted, accepted_by, verdict, without_logs, side_case, lane_case}
-use Rattle.answers.proofs.Verdicts.{none_refuses, counted, side_built, lane_whole}
+use Rattle.answers.proofs.Verdicts.{none_refuses, side_built, lane_whole}
 use Rattle.marks.specs.Marks.{marks_case}
 use Rattle.marks.proofs.Checked.{good_marks}
 use Rattle.refusals.specs.declared.Sizes.{Sizes}
@@ -38,9 +37,6 @@ BoardMoves s m = is_side s ≡ true → m ≡ record { electronic = 7 * (s - 1);
 
 moves-made : (s : ℕ) {m : Moves} → BoardMoves s m → is_side s ≡ true → accepted m.electronic m.swaps ≡ accepted (7 * (s - 1)) 2
 moves-made s f t = ap (λ (m : Moves). accepted m.electronic m.swaps) (f t)
-
-pub rank_counts : (s : ℕ) → is_side s ≡ true → accepted_by (prefix_sum_runs s) ≡ accepted (7 * (s - 1)) 2
-rank_counts s h = counted (prefix_sum_runs s) (7 * (s - 1)) 2 (prefix_sum-electronic s) refl (omega (arith, (side_known s h).most)) (omega arith)
 
 -- marks and aims that rank accepts
 pub record RankKnown (s : ℕ) (marks : List ℕ) (n : ℕ) : Type 0 where

@@ -17,10 +17,10 @@ use Rattle.records.proofs.Marked.{found}
 use Rattle.plainrecords.specs.Inside.{BoardMarks, Gathered, up_to, Holding, ArrangedBy}
 
 -- a lane of which the first cells hold something
-pub first_held : (count n : ℕ) (f : ℕ → ℕ) {lane : List ℕ} → lane ≡ up_to 0 count f n → (j : ℕ) → j < n → get_or lane j 0 ≡ cond (ltb j count) (f j) 0
+pub first_held : (count n : ℕ) (f : ℕ → ℕ) {lane : List ℕ} → lane ≡ up_to count f n → (j : ℕ) → j < n → get_or lane j 0 ≡ cond (ltb j count) (f j) 0
 first_held count n f e j h = ap (λ (l : List ℕ). get_or l j 0) e ∙ entry_at (λ i. cond (ltb i count) (f i) 0) n j 0 h
 
-holding_first : (count b n n' : ℕ) (f : ℕ → ℕ) {lane : List ℕ} → lane ≡ up_to 0 count f n' → n' ≡ n → count ≡ b → Holding n (λ j. ltb j b) f lane
+holding_first : (count b n n' : ℕ) (f : ℕ → ℕ) {lane : List ℕ} → lane ≡ up_to count f n' → n' ≡ n → count ≡ b → Holding n (λ j. ltb j b) f lane
 holding_first count b n n' f e m c = record { each = λ j h. first_held count n' f e j (omega arith) ∙ ap (λ (k : ℕ). cond (ltb j k) (f j) 0) c }
 
 -- Concentrate: the word at place j is that of the marked cell of rank j
@@ -32,8 +32,8 @@ word_of {marks = marks} {gathered} good g j h =
 
 -- the words that were gathered, and the marks and aims of as many cells
 pub packed : {words marks aims gathered words' marks' aims' : List ℕ} {count : ℕ} → BoardMarks marks → length gathered ≡ length marks → length aims ≡ length marks
-    → Gathered marks words gathered count → words' ≡ up_to 0 count (λ i. get_or gathered i 0) (length gathered) → marks' ≡ up_to 0 count (λ i. 1) (length marks)
-    → aims' ≡ up_to 0 count (λ i. i) (length aims) → ArrangedBy Concentrate (length marks) words marks aims words' marks' aims'
+    → Gathered marks words gathered count → words' ≡ up_to count (λ i. get_or gathered i 0) (length gathered) → marks' ≡ up_to count (λ i. 1) (length marks)
+    → aims' ≡ up_to count (λ i. i) (length aims) → ArrangedBy Concentrate (length marks) words marks aims words' marks' aims'
 packed {words} {marks} {aims} {gathered} {words'} {count = count} good n m g w k a = record {
   words = record { each = λ j h. holding.each j h ∙ ⊎_elim (moved j) (λ u. rw (le-ltb j (rank_in marks (length marks)) u)) (apart j (rank_in marks (length marks))) };
   marks = holding_first count (rank_in marks (length marks)) (length marks) (length marks) (λ i. 1) k refl g.count_is;

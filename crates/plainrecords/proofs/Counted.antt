@@ -1,14 +1,11 @@
 -- Marked cells counted, cell after cell.
 use Prim.Native.Nat.{ℕ, ◌+◌, ◌≤◌, ◌<◌}
-use mathlib.Core.Path.{◌≡◌, refl, ap, ◌∙◌}
-use mathlib.Core.Bool.{cond}
+use mathlib.Core.Path.{◌≡◌}
 use mathlib.Core.List.{List}
 use native.Mathlib.Numerals.{add-one}
 use native.Mathlib.Omega.{arith}
-use lib.Dec.{eqb}
 use lib.ListN.{length, get_or}
 use Rattle.marks.specs.Marks.{rank_in}
-use Rattle.ranking.specs.Ranks.{aim_in}
 use Rattle.plainrecords.specs.Inside.{BoardMarks}
 
 -- so many of the cells before i are marked
@@ -18,17 +15,9 @@ pub record Counted (marks : List ℕ) (count i : ℕ) : Type 0 where
   pub rank_is : count ≡ rank_in marks i
 
 module _ {marks : List ℕ} where
-  pub counted_start : Counted marks 0 0
-  counted_start = record { inside = omega arith; few = omega arith; rank_is = refl }
-
   pub counted_next : {count i : ℕ} (v : ℕ) → BoardMarks marks → i < length marks → v ≡ get_or marks i 0 → Counted marks count i → Counted marks (count + v) (i + 1)
   counted_next {count} {i} v good h e z =
       record { inside = omega arith; few = omega (arith, good.good i h, z.few); rank_is = rw (add-one i) (omega (arith, z.rank_is)) }
-
-  pub counted_end : {count i : ℕ} → length marks ≤ i → Counted marks count i → count ≡ rank_in marks (length marks)
-  counted_end {count} {i} h z =
-      let e : i ≡ length marks = omega (arith, z.inside) in
-      z.rank_is ∙ ap (rank_in marks) e
 
   -- the rank of a cell of a board fits an aim
   pub counted_few : {count i : ℕ} → BoardMarks marks → Counted marks count i → count ≤ 4096
@@ -36,7 +25,3 @@ module _ {marks : List ℕ} where
 
   pub next_few : {count i : ℕ} (v : ℕ) → BoardMarks marks → i < length marks → v ≡ get_or marks i 0 → Counted marks count i → count + v ≤ 4096
   next_few v good h e z = counted_few good (counted_next v good h e z)
-
-  -- the aim that rank writes
-  pub rank_aim : {count i a : ℕ} → a ≡ cond (eqb (get_or marks i 0) 1) count 0 → Counted marks count i → a ≡ aim_in marks i
-  rank_aim {count} {i} e z = e ∙ ap (λ (n : ℕ). cond (eqb (get_or marks i 0) 1) n 0) z.rank_is

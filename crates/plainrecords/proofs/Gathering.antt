@@ -1,6 +1,6 @@
 -- Words gathered at the front, cell after cell, and what stands there at the end.
 use Prim.Native.Nat.{ℕ, ◌+◌, ◌≤◌, ◌<◌}
-use mathlib.Core.Path.{◌≡◌, refl, ◌∙◌}
+use mathlib.Core.Path.{◌≡◌, ◌∙◌}
 use mathlib.Core.Logic.{⊎_elim}
 use mathlib.Core.List.{List}
 use native.Mathlib.Omega.{arith}
@@ -9,8 +9,8 @@ use lib.Seq.{get_or-set_same, get_or-set_other}
 use Rattle.laws.proofs.Deciding.{same?}
 use Rattle.marks.specs.Marks.{rank_in}
 use Rattle.records.proofs.Marked.{rank_past}
-use Rattle.plainrecords.specs.Inside.{BoardMarks, Gathered}
-use Rattle.plainrecords.proofs.Counted.{Counted, counted_start, counted_next, counted_end}
+use Rattle.plainrecords.specs.Inside.{BoardMarks}
+use Rattle.plainrecords.proofs.Counted.{Counted, counted_next}
 
 -- the words of the marked cells below i stand at their ranks, and those from i on where they were
 pub record Gathering (marks old words : List ℕ) (rank i : ℕ) : Type 0 where
@@ -20,9 +20,6 @@ pub record Gathering (marks old words : List ℕ) (rank i : ℕ) : Type 0 where
   pub ahead : (k : ℕ) → i ≤ k → get_or words k 0 ≡ get_or old k 0
 
 module _ {marks old : List ℕ} where
-  pub gathering_start : Gathering marks old old 0 0
-  gathering_start = record { count = counted_start; long = refl; word = λ k h. absurd (omega arith); ahead = λ k h. refl }
-
   pub gathering_next : {words : List ℕ} {rank i : ℕ} (v : ℕ) → BoardMarks marks → length old ≡ length marks → i < length marks → v ≡ get_or marks i 0
       → Gathering marks old words rank i → Gathering marks old (set words rank (get_or words i 0)) (rank + v) (i + 1)
   gathering_next {words} {rank} {i} v good n h e z = record {
@@ -41,10 +38,3 @@ module _ {marks old : List ℕ} where
       there k m l =
           get_or-set_other words rank (rank_in marks k) (get_or words i 0) 0 (λ d. omega (arith, d, rank_past marks k i l m, z.count.rank_is))
           ∙ z.word k l m
-
-  pub gathering_end : {words : List ℕ} {rank i : ℕ} → length marks ≤ i → Gathering marks old words rank i → Gathered marks old words rank
-  gathering_end h z = record {
-    count_is = counted_end h z.count;
-    few = omega (arith, z.count.few, z.count.inside);
-    word = λ k l. z.word k (omega arith);
-  }

@@ -24,10 +24,10 @@ use Rattle.plainrecords.specs.Inside.{BoardMarks, TripLanes, up_to, Holding, Arr
 use Rattle.plainrecords.proofs.Arranging.{first_held}
 
 -- the first cells keep what they held, and behind them there is nothing
-kept_at : (count n : ℕ) (f : ℕ → ℕ) {lane : List ℕ} → lane ≡ up_to 0 count f n → count ≤ n → (j : ℕ) → j < count → get_or lane j 0 ≡ f j
+kept_at : (count n : ℕ) (f : ℕ → ℕ) {lane : List ℕ} → lane ≡ up_to count f n → count ≤ n → (j : ℕ) → j < count → get_or lane j 0 ≡ f j
 kept_at count n f e h j l = first_held count n f e j (omega arith) ∙ rw (lt-ltb j count l)
 
-nothing-behind : (count n : ℕ) (f : ℕ → ℕ) {lane : List ℕ} → lane ≡ up_to 0 count f n → (j : ℕ) → count ≤ j → get_or lane j 0 ≡ 0
+nothing-behind : (count n : ℕ) (f : ℕ → ℕ) {lane : List ℕ} → lane ≡ up_to count f n → (j : ℕ) → count ≤ j → get_or lane j 0 ≡ 0
 nothing-behind count n f {lane} e j l = ⊎_elim (λ h. first_held count n f e j h ∙ rw (le-ltb j count l)) (λ h. get_or-eq_default lane 0 (past h)) (apart j n)
   where
     past : n ≤ j → length lane ≤ j
@@ -47,7 +47,7 @@ module _ {marks aims : List ℕ} (t : TripLanes Distribute marks aims) where
   count_few e = omega (arith, e, aimed.few, t.size)
 
   module _ (words : List ℕ) {count : ℕ} (c : count ≡ rank_in marks (length marks)) (n : length words ≡ length marks) (m : length aims ≡ length marks)
-      {words' aims' : List ℕ} (w : words' ≡ up_to 0 count (λ i. get_or words i 0) (length words)) (a : aims' ≡ up_to 0 count (λ i. get_or aims i 0) (length aims)) where
+      {words' aims' : List ℕ} (w : words' ≡ up_to count (λ i. get_or words i 0) (length words)) (a : aims' ≡ up_to count (λ i. get_or aims i 0) (length aims)) where
     word_kept : (r : ℕ) → r < count → get_or words' r 0 ≡ get_or words r 0
     word_kept r h = kept_at count (length words) (λ i. get_or words i 0) w (omega (arith, count_few c)) r h
 

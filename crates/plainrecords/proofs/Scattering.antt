@@ -3,16 +3,11 @@ use Prim.Native.Nat.{ℕ, zero, suc, ◌-◌, ◌≤◌, ◌<◌}
 use mathlib.Core.Path.{◌≡◌, refl, sym, ap, ◌∙◌}
 use mathlib.Core.Logic.{⊎_elim}
 use mathlib.Core.List.{List}
-use mathlib.Core.Bool.{Bool, true, false}
 use native.Mathlib.Omega.{arith}
-use borrow.Author.Tests.{lt-ltb, eqb-true, ltb-true}
-use lib.Dec.{ltb}
 use lib.ListN.{length, get_or, set, length-set}
 use lib.Seq.{get_or-set_same, get_or-set_other}
 use Rattle.laws.proofs.Deciding.{apart, same?}
-use Rattle.refusals.proofs.Aims.{and_false, not_is}
-use Rattle.laws.proofs.Bools.{both_left}
-use Rattle.plainrecords.specs.Inside.{last_goes, Ready, Landed}
+use Rattle.plainrecords.specs.Inside.{Ready, Landed}
 
 -- the records from r on are where their aims say, those below r where they were, and no other cell from r on holds anything
 pub record Scattering (aims : List ℕ) (v : ℕ → ℕ) (count : ℕ) (old lane : List ℕ) (r : ℕ) : Type 0 where
@@ -41,9 +36,6 @@ module _ {count : ℕ} {words marks aims : List ℕ} (ready : Ready count words 
       (apart q (suc r))
 
   module _ (v : ℕ → ℕ) (old : List ℕ) where
-    pub scattering_start : ((j : ℕ) → count ≤ j → get_or old j 0 ≡ 0) → Scattering aims v count old old count
-    scattering_start z = record { long = refl; below = λ k h. refl; there = λ q l h. absurd (omega arith); rest = λ j l f. z j l }
-
     module _ {lane : List ℕ} {r : ℕ} (to w : ℕ) (h : 0 < r) (h' : r ≤ count) (n : length old ≡ length marks) (e : to ≡ get_or aims (r - 1) 0) (g : w ≡ v (r - 1))
         (z : Scattering aims v count old lane r) where
       abbrev cleared : List ℕ
@@ -102,10 +94,6 @@ module _ {count : ℕ} {words marks aims : List ℕ} (ready : Ready count words 
       rest = λ j f. ⊎_elim (λ l. absurd (f j (omega arith) (stay j l))) (λ l. z.rest j l (λ q p u x. f q u x)) (apart j r);
     }
 
--- there is a record that goes
-pub some_go : (r : ℕ) (aims : List ℕ) {t : Bool} → t ≡ last_goes r aims → t ≡ true → 0 < r
-some_go r aims e h = ltb-true 0 r (both_left (ltb 0 r) _ (sym e ∙ h))
-
 -- three lanes at once
 pub record Spreading (count : ℕ) (w m a w' m' a' : List ℕ) (r : ℕ) : Type 0 where
   pub inside : r ≤ count
@@ -113,40 +101,13 @@ pub record Spreading (count : ℕ) (w m a w' m' a' : List ℕ) (r : ℕ) : Type 
   pub marks : Scattering a (λ q. 1) count m m' r
   pub aims : Scattering a (λ q. get_or a q 0) count a a' r
 
--- a cell of three lanes
-pub record InLanes (i : ℕ) (w m a : List ℕ) : Type 0 where
-  pub words : i < length w
-  pub marks : i < length m
-  pub aims : i < length a
-
 module _ {count : ℕ} {words₀ marks₀ aims₀ : List ℕ} (ready : Ready count words₀ marks₀ aims₀) where
-  pub spreading_start : Spreading count words₀ marks₀ aims₀ words₀ marks₀ aims₀ count
-  spreading_start = record {
-    inside = omega arith;
-    words = scattering_start ready _ words₀ ready.no_words;
-    marks = scattering_start ready _ marks₀ ready.no_marks;
-    aims = scattering_start ready _ aims₀ ready.no_aims;
-  }
-
   pub in_range : {words marks aims : List ℕ} {r : ℕ} → Spreading count words₀ marks₀ aims₀ words marks aims r → r ≤ length aims
   in_range z = omega (arith, z.inside, ready.few, z.aims.long, ready.aims_long)
 
   module _ {words marks aims : List ℕ} {r : ℕ} (h : 0 < r) (z : Spreading count words₀ marks₀ aims₀ words marks aims r) where
-    in_lanes : (i : ℕ) → i < length marks₀ → InLanes i words marks aims
-    in_lanes i l = record {
-      words = omega (arith, z.words.long, ready.words_long);
-      marks = omega (arith, z.marks.long);
-      aims = omega (arith, z.aims.long, ready.aims_long);
-    }
-
-    pub from_inside : InLanes (r - 1) words marks aims
-    from_inside = in_lanes (r - 1) (omega (arith, z.inside, ready.few))
-
     taken : get_or aims (r - 1) 0 ≡ get_or aims₀ (r - 1) 0
     taken = z.aims.below (r - 1) (omega arith)
-
-    pub to_inside : {to : ℕ} → to ≡ get_or aims (r - 1) 0 → InLanes to words marks aims
-    to_inside {to} e = in_lanes to (omega (arith, e, taken, ready.below (r - 1) (omega (arith, z.inside))))
 
     pub spreading_next : {to : ℕ} → to ≡ get_or aims (r - 1) 0
         → Spreading count words₀ marks₀ aims₀ (set (set words (r - 1) 0) to (get_or words (r - 1) 0)) (set (set marks (r - 1) 0) to 1) (set (set aims (r - 1) 0) to (get_or aims (r - 1) 0)) (r - 1)
@@ -157,21 +118,16 @@ module _ {count : ℕ} {words₀ marks₀ aims₀ : List ℕ} (ready : Ready cou
       aims = scattering_next ready _ aims₀ to _ h z.inside ready.aims_long (e ∙ taken) taken z.aims;
     }
 
-  -- where the last of r records stays, or there is none, they all stay
-  pub spreading_end : {words marks aims : List ℕ} {r : ℕ} → last_goes r aims ≡ false → Spreading count words₀ marks₀ aims₀ words marks aims r
-      → Landed count aims₀ (λ q. get_or words₀ q 0) words × (Landed count aims₀ (λ q. 1) marks × Landed count aims₀ (λ q. get_or aims₀ q 0) aims)
-  spreading_end {words} {marks} {aims} {r} h z = (
-    scattering_end ready _ words₀ z.inside stay (λ q l. refl) z.words,
-    (
-      scattering_end ready _ marks₀ z.inside stay (λ q l. ready.marked q (omega (arith, z.inside))) z.marks,
-      scattering_end ready _ aims₀ z.inside stay (λ q l. refl) z.aims,
-    ),
-  )
-    where
-      last : 0 < r → get_or aims₀ (r - 1) 0 ≡ r - 1
-      last l =
-          let e = eqb-true (get_or aims (r - 1) 0) (r - 1) (not_is _ (and_false (ltb 0 r) _ h (lt-ltb 0 r l))) in
-          sym (z.aims.below (r - 1) (omega arith)) ∙ e
-
-      stay : (q : ℕ) → q < r → get_or aims₀ q 0 ≡ q
-      stay q l = stay_before ready (r - 1) q (omega (arith, z.inside)) (last (omega arith)) (omega arith)
+    -- where the last of r records stays, they all stay
+    pub spreading_end : get_or aims (r - 1) 0 ≡ r - 1
+        → Landed count aims₀ (λ q. get_or words₀ q 0) words × (Landed count aims₀ (λ q. 1) marks × Landed count aims₀ (λ q. get_or aims₀ q 0) aims)
+    spreading_end e = (
+      scattering_end ready _ words₀ z.inside stay (λ q l. refl) z.words,
+      (
+        scattering_end ready _ marks₀ z.inside stay (λ q l. ready.marked q (omega (arith, z.inside))) z.marks,
+        scattering_end ready _ aims₀ z.inside stay (λ q l. refl) z.aims,
+      ),
+    )
+      where
+        stay : (q : ℕ) → q < r → get_or aims₀ q 0 ≡ q
+        stay q l = stay_before ready (r - 1) q (omega (arith, z.inside)) (sym taken ∙ e) (omega arith)

@@ -1,5 +1,5 @@
 -- What private functions' contracts cite; the public contracts are read without it.
-use Rattle.std.specs.Prelude.{ℕ, ◌-◌, ◌≤◌, ◌<◌, ◌≡◌, Bool, true, cond, not, ◌&&◌, List, ltb, eqb, length, get_or}
+use Rattle.std.specs.Prelude.{ℕ, ◌≤◌, ◌<◌, ◌≡◌, Bool, true, cond, List, ltb, length, get_or}
 use Rattle.laws.specs.Lent.{Lent, old, new}
 use Rattle.laws.specs.Tables.{entries}
 use Rattle.array.specs.declared.lent.LentSlots.{LentSlots}
@@ -22,9 +22,9 @@ pub record Gathered (marks words words' : List ℕ) (count : ℕ) : Type 0 where
   pub few : count ≤ length marks
   pub word : (i : ℕ) → i < length marks → get_or marks i 0 ≡ 1 → get_or words' (rank_in marks i) 0 ≡ get_or words i 0
 
--- a lane of n cells: the first, so many, by a rule, and all others empty
-abbrev pub up_to : {A : Type 0} → A → ℕ → (ℕ → A) → ℕ → List A
-up_to empty count f n = entries (λ i. cond (ltb i count) (f i) empty) 0 n
+-- a lane of n cells: the first, so many, by a rule, and 0 in all others
+abbrev pub up_to : ℕ → (ℕ → ℕ) → ℕ → List ℕ
+up_to count f n = entries (λ i. cond (ltb i count) (f i) 0) 0 n
 
 -- marks and aims of some board, such as a trip takes
 pub record TripLanes (trip : Trip) (marks aims : List ℕ) : Type 0 where
@@ -32,6 +32,12 @@ pub record TripLanes (trip : Trip) (marks aims : List ℕ) : Type 0 where
   pub built : is_side side ≡ true
   pub size : length marks ≡ cells side
   pub good : Good trip side marks aims
+
+-- three lanes of some board, such as a trip takes
+pub record TripSlots (trip : Trip) (t : LentSlots) : Type 0 where
+  pub lanes : TripLanes trip t.marks.now t.aims.now
+  pub words_long : length t.words.now ≡ length t.marks.now
+  pub aims_long : length t.aims.now ≡ length t.marks.now
 
 -- a lane of n cells: cell j holds v j where it is held, and else 0
 pub record Holding (n : ℕ) (held : ℕ → Bool) (v : ℕ → ℕ) (lane : List ℕ) : Type 0 where
@@ -52,15 +58,8 @@ pub record ArrangedBy (trip : Trip) (n : ℕ) (w m a w' m' a' : List ℕ) : Type
   pub marks : Holding n (is_held trip n m a) (λ j. 1) m'
   pub aims : Holding n (is_held trip n m a) (λ j. j) a'
 
-abbrev pub Arranged : Trip → (w m a : Lent) → Type 0
-Arranged trip w m a = ArrangedBy trip (length (old m)) (old w) (old m) (old a) (new w) (new m) (new a)
-
-abbrev pub ArrangedSlots : Trip → LentSlots → LentSlots → Type 0
-ArrangedSlots trip t t' = ArrangedBy trip (length t.marks.now) t.words.now t.marks.now t.aims.now t'.words.now t'.marks.now t'.aims.now
-
--- of so many records the last one is not aimed at its own cell
-abbrev pub last_goes : ℕ → List ℕ → Bool
-last_goes records aims = ltb 0 records && not (eqb (get_or aims (records - 1) 0) (records - 1))
+abbrev pub Arranged : Trip → LentSlots → LentSlots → Type 0
+Arranged trip t t' = ArrangedBy trip (length t.marks.now) t.words.now t.marks.now t.aims.now t'.words.now t'.marks.now t'.aims.now
 
 -- the records of the first cells, so many, with rising aims, and nothing behind them
 pub record Ready (count : ℕ) (words marks aims : List ℕ) : Type 0 where

@@ -1,9 +1,10 @@
 // Concentrate in place: the words of the marked cells go to the front, and marks and aims follow from their number.
 ghost use Rattle.std.specs.Prelude.{◌≡◌, ◌≤◌, EachIndex, length, slice_index};
+ghost use Rattle.array.specs.Lent.{SameSlots};
 ghost use Rattle.lists.specs.declared.Trip.TheVariants.{Concentrate};
-ghost use Rattle.plainrecords.specs.Inside.{BoardMarks, Gathered, up_to, Arranged};
+ghost use Rattle.plainrecords.specs.Inside.{BoardMarks, TripSlots, Gathered, up_to, Arranged};
 
-use crate::keeping::keep_first;
+use array::lent::LentSlots;
 
 // Every word is stored at the rank of its cell, so that no branch hangs on the mark: the word of an unmarked cell is overwritten by the next,
 // or lies behind the last. A rank is at most its cell, so no word is lost before it is read.
@@ -13,9 +14,9 @@ fn gather(marks: &[u8], words: &mut [u32]) -> usize
     ensures { Gathered marks.now words.old words.new result }
 {
     let mut rank: usize = 0;
-    for i in 0..marks.len() {
+    for (i, &mark) in marks.iter().enumerate() {
         words[rank] = words[i];
-        rank += usize::from(marks[i]);
+        rank += usize::from(mark);
     }
     rank
 }
@@ -33,31 +34,31 @@ fn number_all(aims: &mut [u16])
 // The first cells are marked, and no others.
 fn mark_first(count: usize, marks: &mut [u8])
     requires { count ≤ length marks.old }
-    ensures { marks.new ≡ up_to 0 count (λ i. 1) (length marks.old) }
+    ensures { marks.new ≡ up_to count (λ i. 1) (length marks.old) }
 {
     marks[..count].fill(1);
-    keep_first(count, marks, 0);
+    marks[count..].fill(0);
 }
 
 // The first cells are their own aims, and all others hold 0.
 fn number_first(count: usize, aims: &mut [u16])
     requires count_in_bounds { count ≤ length aims.old }
     requires aims_len_bound { length aims.old ≤ 4096 }
-    ensures { aims.new ≡ up_to 0 count (λ i. i) (length aims.old) }
+    ensures { aims.new ≡ up_to count (λ i. i) (length aims.old) }
 {
     number_all(&mut aims[..count]);
-    keep_first(count, aims, 0);
+    aims[count..].fill(0);
 }
 
 // Cell j becomes the record of rank j.
-pub(crate) fn pack(words: &mut [u32], marks: &mut [u8], aims: &mut [u16])
-    requires board_marks { BoardMarks marks.old }
-    requires words_len { length words.old ≡ length marks.old }
-    requires aims_len { length aims.old ≡ length marks.old }
-    ensures { Arranged Concentrate words marks aims }
+pub(crate) fn pack(slots: &mut LentSlots)
+    requires { TripSlots Concentrate slots.old }
+    ensures same { SameSlots slots.old slots.new }
+    ensures arranged { Arranged Concentrate slots.old slots.new }
 {
-    let count = gather(marks, words);
-    keep_first(count, words, 0);
+    let marks = &mut *slots.marks;
+    let count = gather(marks, slots.words);
+    slots.words[count..].fill(0);
     mark_first(count, marks);
-    number_first(count, aims);
+    number_first(count, slots.aims);
 }

@@ -1,5 +1,5 @@
 // Rank in one pass: each cell takes the number of marked cells before it.
-ghost use Rattle.std.specs.Prelude.{◌≡◌, cond, ◌≤◌, eqb, length};
+ghost use Rattle.std.specs.Prelude.{◌≡◌, length};
 ghost use Rattle.laws.specs.Lent.{new};
 ghost use Rattle.laws.specs.Tables.{entries};
 ghost use Rattle.lists.specs.Lists.{prefix_sum_runs};
@@ -12,24 +12,16 @@ use crate::counting::moves_of;
 use answers::{Moves, Refusal, check_lane, check_side};
 use marks::check_marks;
 
-// The aim of a cell of this mark, with so many marked cells before it. No branch hangs on the mark.
-fn aim(mark: u8, count: usize) -> u16
-    requires { count ≤ 4096 }
-    ensures { result ≡ cond (eqb mark 1) count 0 }
-{
-    let rank = count as u16;
-    if mark == 1 { rank } else { 0 }
-}
-
+// A marked cell's aim is the number of marked cells before it. No branch hangs on the mark.
 pub(crate) fn write_ranks(marks: &[u8], aims: &mut [u16])
     requires board_marks { BoardMarks marks.now }
     requires aims_len { length aims.old ≡ length marks.now }
     ensures { new aims ≡ entries (aim_in marks.now) 0 (length marks.now) }
 {
-    let mut count: usize = 0;
-    for i in 0..marks.len() {
-        aims[i] = aim(marks[i], count);
-        count += usize::from(marks[i]);
+    let mut rank: usize = 0;
+    for (i, &mark) in marks.iter().enumerate() {
+        aims[i] = if mark == 1 { rank as u16 } else { 0 };
+        rank += usize::from(mark);
     }
 }
 

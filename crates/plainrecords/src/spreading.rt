@@ -1,33 +1,29 @@
 // Distribute in place: every record goes from the front to the cell that its aim names, the last one first.
-ghost use Rattle.std.specs.Prelude.{◌≡◌, ◌≤◌, length};
+ghost use Rattle.std.specs.Prelude.{◌≡◌};
+ghost use Rattle.array.specs.Lent.{SameSlots};
 ghost use Rattle.lists.specs.declared.Trip.TheVariants.{Distribute};
-ghost use Rattle.plainrecords.specs.Inside.{TripLanes, last_goes, Ready, Scattered, Arranged};
+ghost use Rattle.plainrecords.specs.Inside.{TripSlots, Ready, Scattered, Arranged};
 
-use crate::keeping::keep_first;
+use array::lent::LentSlots;
 use marks::count_marks;
 
-// Of so many records the last one has to go: its aim is not its own cell. Where it stays, so do all before it, since aims rise.
-fn goes(records: usize, aims: &[u16]) -> bool
-    requires { records ≤ length aims.now }
-    ensures { result ≡ last_goes records aims.now }
-{
-    0 < records && usize::from(aims[records - 1]) != records - 1
-}
-
+// Where a record stays, so do all before it, since aims rise.
 // No record is overwritten before it is taken: its aim is no cell before its own, and the records before it are taken later.
+// The lanes come one by one: where they come as one, each is looked up again at every store, which takes distribute a sixth longer.
 fn scatter(count: usize, words: &mut [u32], marks: &mut [u8], aims: &mut [u16])
     requires { Ready count words.old marks.old aims.old }
     ensures { Scattered count words marks aims }
 {
-    let mut r = count;
-    while goes(r, aims) {
-        r -= 1;
+    for r in (0..count).rev() {
         let word = words[r];
         let aim = aims[r];
+        let to = usize::from(aim);
+        if to == r {
+            break;
+        }
         words[r] = 0;
         marks[r] = 0;
         aims[r] = 0;
-        let to = usize::from(aim);
         words[to] = word;
         marks[to] = 1;
         aims[to] = aim;
@@ -35,14 +31,14 @@ fn scatter(count: usize, words: &mut [u32], marks: &mut [u8], aims: &mut [u16])
 }
 
 // Each cell that is aimed at becomes the record that aims at it. Behind the records the marks are 0 already.
-pub(crate) fn spread(words: &mut [u32], marks: &mut [u8], aims: &mut [u16])
-    requires trip_lanes { TripLanes Distribute marks.old aims.old }
-    requires words_len { length words.old ≡ length marks.old }
-    requires aims_len { length aims.old ≡ length marks.old }
-    ensures { Arranged Distribute words marks aims }
+pub(crate) fn spread(slots: &mut LentSlots)
+    requires { TripSlots Distribute slots.old }
+    ensures same { SameSlots slots.old slots.new }
+    ensures arranged { Arranged Distribute slots.old slots.new }
 {
+    let marks = &mut *slots.marks;
     let count = count_marks(marks);
-    keep_first(count, words, 0);
-    keep_first(count, aims, 0);
-    scatter(count, words, marks, aims);
+    slots.words[count..].fill(0);
+    slots.aims[count..].fill(0);
+    scatter(count, slots.words, marks, slots.aims);
 }

@@ -11,15 +11,21 @@ use Rattle.shiftlists.specs.declared.Axis.TheVariants.{MeshRow, MeshColumn, Grou
 use Rattle.shiftlists.specs.declared.Edge.{Edge}
 use Rattle.shiftlists.specs.declared.Edge.TheVariants.{ZeroFill, Circular}
 use Rattle.shiftlists.specs.declared.Distance.{Distance}
-use Rattle.plainwords.specs.declared.lines.Lines.{Lines}
+use Rattle.plainwords.specs.declared.axes.NearShift.{NearShift}
+use Rattle.plainwords.specs.declared.tables.Lines.{Lines}
 use Rattle.array.specs.Cells.{cells}
 use Rattle.shiftlists.specs.Shifts.{modulo}
 use Rattle.lanes.specs.Machine.{at, load, unload}
 use Rattle.lanes.specs.Inside.{FitsBoard}
 use Rattle.lanes.proofs.Coordinates.{place<, unloaded}
 use Rattle.shifts.specs.Results.{came_from, word_from, shifted}
-use Rattle.plainwords.specs.Inside.{Near, stride_along, blocks_along, source_of, entry_for, position_on, named, Names, WholeBlocks, BlocksShifted}
+use Rattle.plainwords.specs.Names.{Names}
+use Rattle.plainwords.specs.Inside.{Near, stride_along, blocks_along, source_of, entry_for, position_on, named, WholeBlocks, BlocksShifted}
 use Rattle.plainwords.proofs.Shifting.{same_word}
+
+-- what a shift holds of its distance
+pub near : (x : NearShift) → Near x.side x.k
+near x = record { least = x.least; most = x.most; forth = x.forth; back = x.back }
 
 -- a position that a word comes from is one of the line
 came_in : (edge : Edge) {s : ℕ} {k : Distance} → Near s k → (p q : ℕ) → came_from edge s k p ≡ some q → q < s
@@ -52,13 +58,17 @@ module _ (edge : Edge) {s : ℕ} {k : Distance} {from : List ℕ} (z : Near s k)
   pub named_is : (p : ℕ) → p < s → named s from p ≡ came_from edge s k p
   named_is p h = ap (position_on s) (entry_of p (omega (arith, z.most))) ∙ (numbered s (came_from edge s k p) z.most (came_in edge z p)).0
 
+  long : length from ≡ 8
+  long = ap length e ∙ length-entries (λ p. entry_for (came_from edge s k p)) 0 8
+
   past : (p : ℕ) → 8 ≤ p → get_or from p 0 ≤ 8
-  past p h =
-      let long : length from ≡ 8 = ap length e ∙ length-entries (λ p. entry_for (came_from edge s k p)) 0 8 in
-      omega (arith, get_or-eq_default from 0 {n = p} (omega arith))
+  past p h = omega (arith, get_or-eq_default from 0 {n = p} (omega (arith, long)))
 
   pub names : Names from
-  names = record { few = λ p. ⊎_elim (λ h. rw (entry_of p h) (numbered s (came_from edge s k p) z.most (came_in edge z p)).1) (λ h. past p h) (apart p 8) }
+  names = record {
+    long = long;
+    few = λ p. ⊎_elim (λ h. rw (entry_of p h) (numbered s (came_from edge s k p) z.most (came_in edge z p)).1) (λ h. past p h) (apart p 8);
+  }
 
 -- the blocks of an axis are the board
 few_cells : {s : ℕ} → s ≤ 8 → (axis : Axis) → s * stride_along s axis ≤ 4096
@@ -73,14 +83,11 @@ board_blocks s MeshColumn = refl
 board_blocks s GroupRow = mul_assoc s s (s * s)
 board_blocks s GroupColumn = mul_assoc s s (s * s) ∙ sym (one-mul (s * (s * (s * s))))
 
-pub whole-blocks : {lines : Lines} {n blocks : ℕ} (axis : Axis) → FitsBoard lines.side n → Names lines.from.now → lines.stride ≡ stride_along lines.side axis
+pub whole-blocks : {lines : Lines} {n blocks : ℕ} (axis : Axis) → FitsBoard lines.side n → lines.stride ≡ stride_along lines.side axis
     → blocks ≡ blocks_along lines.side axis → WholeBlocks lines blocks n
-whole-blocks {lines} axis b names e f = record {
-  least = b.least;
-  most = b.most;
+whole-blocks {lines} axis b e f = record {
   few = rw e (few_cells b.most axis);
   whole = rw (e, f) (b.whole ∙ board_blocks lines.side axis);
-  names = names;
 }
 
 -- two digits of a number

@@ -1,22 +1,10 @@
 -- Eight lines at a time, as rows of eight words: rows taken, and laid where the table says.
-use Rattle.std.proofs.Common.{◌≡◌, ℕ, ◌+◌, ◌-◌, ◌*◌, ◌<◌, ◌≤◌, Bool, true, false, cond, ltb, List, length, get_or, set, replicate, refl, ap, ◌∙◌, ⊎_elim, mul-le-mul_right, suc-mul, arith, length-set, get_or-set_other, get_or-set_same, ltb-false, ltb-true}
+use Rattle.std.proofs.Common.{◌≡◌, ℕ, ◌+◌, ◌-◌, ◌*◌, ◌<◌, ◌≤◌, Bool, true, false, cond, ltb, List, get_or, replicate, refl, ap, ◌∙◌, ⊎_elim, mul-le-mul_right, suc-mul, arith, ltb-false, ltb-true}
 use mathlib.Core.Option.{none, some}
 use Rattle.laws.proofs.Deciding.{same?}
 use Rattle.shifts.specs.Results.{word_from}
 use Rattle.plainwords.specs.Inside.{named, Copied, RowsLaid, LinesShifted}
 use Rattle.plainwords.proofs.Shifting.{zero_at}
-
--- words copied one after the other
-module _ {a b : ℕ} {source old : List ℕ} where
-  pub copied_next : {j : ℕ} {l : List ℕ} (v : ℕ) → b + j < length old → v ≡ get_or source (a + j) 0 → Copied a b j source old l → Copied a b (j + 1) source old (set l (b + j) v)
-  copied_next {j} {l} v h e z = record {
-    size = length-set l (b + j) v ∙ z.size;
-    done = λ k u. ⊎_elim (λ g. rw g (get_or-set_same l (b + j) v 0 (omega (arith, z.size)) ∙ e)) (earlier k u) (same? k j);
-    kept = λ i u. get_or-set_other l (b + j) i v 0 (u j (omega arith)) ∙ z.kept i (λ k t. u k (omega arith));
-  }
-    where
-      earlier : (k : ℕ) → k < j + 1 → (k ≡ j → ⊥) → get_or (set l (b + j) v) (b + k) 0 ≡ get_or source (a + k) 0
-      earlier k u g = get_or-set_other l (b + j) (b + k) v 0 (λ y. g (omega (arith, y))) ∙ z.done k (omega (arith, g))
 
 -- rows laid one after the other
 module _ {first stride : ℕ} {f : ℕ → ℕ → ℕ} {old : List ℕ} where

@@ -1,7 +1,9 @@
 -- Lines shifted one after the other, and blocks of them: what was done stays, and what is still to come is as it was.
-use Rattle.std.proofs.Common.{◌≡◌, ℕ, zero, suc, ◌+◌, ◌*◌, ◌%◌, ◌<◌, ◌≤◌, Bool, true, false, cond, ltb, List, length, get_or, set, replicate, sym, refl, ap, ◌∙◌, ⊎_elim, mul-le-mul_right, suc-mul, arith, length-set, get_or-set_other, get_or-set_same}
+use Rattle.std.proofs.Common.{◌≡◌, ℕ, zero, suc, ◌+◌, ◌-◌, ◌*◌, ◌%◌, ◌<◌, ◌≤◌, cond, ltb, List, ◌++◌, length, get_or, set, take, drop, replicate, sym, refl, ap, ◌∙◌, ⊎_elim, mul-le-mul_right, suc-mul, arith, length-set, get_or-set_other, get_or-set_same, lt-ltb, le-ltb}
 use mathlib.Core.Option.{Option, none, some}
 use lib.Arith.{digits_lt, digits_mod}
+use lib.ListN.{get_or-append}
+use lib.Seq.{length-take-le, get_or-append_right, get_or-drop}
 use Rattle.laws.proofs.Deciding.{apart, same?}
 use Rattle.laws.proofs.Rewriting.{Rewriting}
 use Rattle.lanes.specs.Inside.{PlacesLaid}
@@ -29,16 +31,23 @@ zero_at (suc n) zero = refl
 zero_at (suc n) (suc q) = zero_at n q
 
 -- a line that was taken: its words, and 0 behind them
-pub line_taken : {s stride first p : ℕ} {words zeros line : List ℕ} → s ≤ p → p ≤ s → zeros ≡ replicate 9 0
-    → Rewriting (λ k. get_or words (first + k * stride) 0) 0 zeros line p → LineTaken s stride first words line
-line_taken {s} {stride} {first} {p} {words} {zeros} {line} h h' none_yet z = record { is = λ q. rw e at (z.entry q) ∙ go q (ltb q s) }
+pub line_taken : {s stride first p : ℕ} {words zeros line : List ℕ} → s ≤ p → s ≤ 8 → zeros ≡ replicate 9 0
+    → Rewriting (λ k. get_or words (first + k * stride) 0) 0 (take s zeros) line p → LineTaken s stride first words (line ++ drop s zeros)
+line_taken {s} {stride} {first} {p} {words} {zeros} {line} h few none_yet z = record { is = λ q. ⊎_elim (here q) (behind q) (apart q s) }
   where
-    e : p ≡ s
-    e = omega arith
+    long : length line ≡ s
+    long = z.long ∙ length-take-le s zeros (omega (arith, ap length none_yet))
 
-    go : (q : ℕ) (t : Bool) → cond t (get_or words (first + q * stride) 0) (get_or zeros q 0) ≡ word_from (λ k. get_or words (first + k * stride) 0) (cond t (some q) none)
-    go q true = refl
-    go q false = ap (λ (l : List ℕ). get_or l q 0) none_yet ∙ zero_at 9 q
+    here : (q : ℕ) → q < s → get_or (line ++ drop s zeros) q 0 ≡ word_from (λ k. get_or words (first + k * stride) 0) (cond (ltb q s) (some q) none)
+    here q u =
+        let inside : q < length line = omega (arith, long) in
+        rw (lt-ltb q s u) (get_or-append line (drop s zeros) 0 q inside ∙ z.entry q ∙ rw (lt-ltb q p (omega arith)))
+
+    behind : (q : ℕ) → s ≤ q → get_or (line ++ drop s zeros) q 0 ≡ word_from (λ k. get_or words (first + k * stride) 0) (cond (ltb q s) (some q) none)
+    behind q u =
+        rw (le-ltb q s u)
+        (get_or-append_right line (drop s zeros) q 0 (omega (arith, long)) ∙ get_or-drop s zeros (q - length line) 0
+        ∙ ap (λ (l : List ℕ). get_or l (s + (q - length line)) 0) none_yet ∙ zero_at 9 (s + (q - length line)))
 
 -- a line that is laid, cell after cell
 pub further : {stride j k : ℕ} → 0 < stride → j < k → j * stride < k * stride

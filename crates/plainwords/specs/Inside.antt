@@ -8,7 +8,7 @@ use Rattle.shiftlists.specs.declared.Axis.TheVariants.{MeshRow, MeshColumn, Grou
 use Rattle.shiftlists.specs.declared.Edge.{Edge}
 use Rattle.shiftlists.specs.declared.Edge.TheVariants.{ZeroFill, Circular}
 use Rattle.shiftlists.specs.declared.Distance.{Distance}
-use Rattle.plainwords.specs.declared.lines.Lines.{Lines}
+use Rattle.plainwords.specs.declared.tables.Lines.{Lines}
 use Rattle.array.specs.Cells.{groups}
 use Rattle.shiftlists.specs.Shifts.{circular_moves}
 use Rattle.shifts.specs.Results.{word_from}
@@ -55,36 +55,22 @@ position_on s q = cond (nat_lt q s) (some q) none
 abbrev pub named : ℕ → List ℕ → ℕ → Option ℕ
 named s from p = position_on s (slice_index from p)
 
--- a table names positions, or none
-pub record Names (from : List ℕ) : Type 0 where
-  pub few : (p : ℕ) → slice_index from p ≤ 8
-
 -- a line, a block and blocks of lines within a lane of n words
 pub record WholeLine (lines : Lines) (first n : ℕ) : Type 0 where
-  pub most : lines.side ≤ 8
   pub on : 0 < lines.stride
   pub inside : (p : ℕ) → p < lines.side → first + p * lines.stride < n
-  pub names : Names lines.from.now
 
 -- eight lines side by side, as rows of eight words
 pub record WholeRows (lines : Lines) (first n : ℕ) : Type 0 where
-  pub most : lines.side ≤ 8
   pub on : 8 ≤ lines.stride
   pub inside : (p : ℕ) → p < lines.side → first + p * lines.stride + 8 ≤ n
-  pub names : Names lines.from.now
 
 pub record WholeBlock (lines : Lines) (start n : ℕ) : Type 0 where
-  pub least : 1 ≤ lines.side
-  pub most : lines.side ≤ 8
   pub inside : start + lines.side * lines.stride ≤ n
-  pub names : Names lines.from.now
 
 pub record WholeBlocks (lines : Lines) (blocks n : ℕ) : Type 0 where
-  pub least : 1 ≤ lines.side
-  pub most : lines.side ≤ 8
   pub few : lines.side * lines.stride ≤ 4096
   pub whole : n ≡ blocks * (lines.side * lines.stride)
-  pub names : Names lines.from.now
 
 -- a line's words, and 0 behind them
 pub record LineTaken (s stride first : ℕ) (words line : List ℕ) : Type 0 where

@@ -4,44 +4,66 @@ ghost use Rattle.laws.specs.Tables.{entries};
 ghost use Rattle.lanes.specs.Machine.{load, unload};
 ghost use Rattle.lanes.specs.Inside.{FitsBoard};
 ghost use Rattle.shifts.specs.Results.{came_from, shifted};
-ghost use Rattle.plainwords.specs.Inside.{stride_along, blocks_along, source_of, entry_for, Near};
+ghost use Rattle.plainwords.specs.Inside.{stride_along, blocks_along, source_of, entry_for};
 
-use crate::lines::{Lines, shift_blocks};
+use crate::tables::Lines;
 use shiftlists::{Axis, Distance, Edge, modulo};
+use std::array::from_fn;
 
-// The position that position p takes its word from with zero fill: over the edge there is none.
-fn came_straight(side: usize, k: Distance, p: usize) -> Option<usize>
-    requires near { Near side k }
-    requires p_bound { p < 8 }
-    ensures { result ≡ source_of (came_from Edge.ZeroFill side k p) }
-{
-    let q = (p + k.back).checked_sub(k.forth)?;
-    if q < side { Some(q) } else { None }
+// A shift of a board's words by a distance within its side.
+#[derive(Clone, Copy, Debug, PartialEq, Eq)]
+pub(crate) struct NearShift {
+    pub side: usize,
+    pub edge: Edge,
+    pub k: Distance,
+    ghost least: { 1 ≤ side },
+    ghost most: { side ≤ 8 },
+    ghost forth: { k.forth < side },
+    ghost back: { k.back < side },
 }
 
-// The same with either edge.
-fn came_from(edge: Edge, side: usize, k: Distance, p: usize) -> Option<usize>
-    requires near { Near side k }
-    requires p_bound { p < 8 }
-    ensures { result ≡ source_of (came_from edge side k p) }
-{
-    match edge {
-        Edge::ZeroFill => came_straight(side, k, p),
-        Edge::Circular => Some((p + (side - modulo(side, k))) % side),
+impl NearShift {
+    // The position that position p takes its word from with zero fill: over the edge there is none.
+    fn came_straight(self, p: usize) -> Option<usize>
+        requires { p < 8 }
+        ensures { result ≡ source_of (came_from Edge.ZeroFill self.side self.k p) }
+    {
+        let q = (p + self.k.back).checked_sub(self.k.forth)?;
+        (q < self.side).then_some(q)
     }
-}
 
-// The same for all positions, worked out once: a table in which 8 stands for none.
-// Options in it make a circular shift of mesh rows up to a quarter slower at side 8.
-fn sources(edge: Edge, side: usize, k: Distance) -> [usize; 8]
-    requires { Near side k }
-    ensures { result ≡ entries (λ p. entry_for (came_from edge side k p)) 0 8 }
-{
-    let mut from = [0usize; 8];
-    for p in 0..8 {
-        from[p] = came_from(edge, side, k, p).unwrap_or(8);
+    // The same with either edge.
+    fn came_from(self, p: usize) -> Option<usize>
+        requires { p < 8 }
+        ensures { result ≡ source_of (came_from self.edge self.side self.k p) }
+    {
+        match self.edge {
+            Edge::ZeroFill => self.came_straight(p),
+            Edge::Circular => Some((p + (self.side - modulo(self.side, self.k))) % self.side),
+        }
     }
-    from
+
+    // The same for all positions, worked out once: a table in which 8 stands for none.
+    // Options in it make a circular shift of mesh rows up to a quarter slower at side 8.
+    fn sources(self) -> [usize; 8]
+        ensures { result ≡ entries (λ p. entry_for (came_from self.edge self.side self.k p)) 0 8 }
+    {
+        from_fn(|p| self.came_from(p).unwrap_or(8))
+    }
+
+    // Every word moves along its line, in place.
+    pub(crate) fn along(self, axis: Axis, words: &mut [u32])
+        requires { FitsBoard self.side (length words.old) }
+        ensures { words.new ≡ unload self.side (shifted axis (came_from self.edge self.side self.k) (load self.side words.old)) }
+    {
+        let from = self.sources();
+        let lines = Lines {
+            side: self.side,
+            stride: stride_along(self.side, axis),
+            from: &from,
+        };
+        lines.shift_blocks(blocks_along(self.side, axis), words);
+    }
 }
 
 // How far apart the cells of a line are.
@@ -68,19 +90,4 @@ fn blocks_along(side: usize, axis: Axis) -> usize
         Axis::GroupRow => side,
         Axis::GroupColumn => 1,
     }
-}
-
-// Every word moves along its line, in place.
-pub(crate) fn shift_along(side: usize, axis: Axis, edge: Edge, k: Distance, words: &mut [u32])
-    requires fits_board { FitsBoard side (length words.old) }
-    requires near { Near side k }
-    ensures { words.new ≡ unload side (shifted axis (came_from edge side k) (load side words.old)) }
-{
-    let from = sources(edge, side, k);
-    let lines = Lines {
-        side,
-        stride: stride_along(side, axis),
-        from: &from,
-    };
-    shift_blocks(lines, blocks_along(side, axis), words);
 }

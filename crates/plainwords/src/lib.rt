@@ -4,6 +4,7 @@
 mod axes;
 mod judging;
 mod lines;
+mod tables;
 
 ghost use Rattle.std.specs.Prelude.{◌≡◌, suc, ◌%◌, ◌^◌, length};
 ghost use Rattle.laws.specs.Sums.{sum_of};
@@ -11,9 +12,10 @@ ghost use Rattle.laws.specs.Tables.{entries};
 ghost use Rattle.answers.specs.Answers.{answer_of};
 ghost use Rattle.plainwords.specs.Entries.{PlainBroadcast, PlainDataSum, PlainPrefixSum, PlainShift};
 
-use crate::axes::shift_along;
-use crate::judging::{judge_broadcast, judge_data_sum, judge_prefix_sum, judge_shift};
+use crate::axes::NearShift;
+use crate::judging::{check_words, judge_broadcast, judge_shift};
 use answers::{Moves, Refusal};
+use lists::total_moves;
 use shiftlists::{Axis, Distance, Edge};
 
 // The sum of all words, modulo 2^32.
@@ -32,10 +34,9 @@ fn add_up(words: &mut [u32])
     ensures { words.new ≡ entries (λ i. sum_of (suc i) words.old % 2 ^ 32) 0 (length words.old) }
 {
     let mut sum: u32 = 0;
-    for i in 0..words.len() {
-        let next = sum.wrapping_add(words[i]);
-        words[i] = next;
-        sum = next;
+    for word in words.iter_mut() {
+        sum = sum.wrapping_add(*word);
+        *word = sum;
     }
 }
 
@@ -53,19 +54,25 @@ pub fn broadcast(side: usize, cell: usize, words: &mut [u32]) -> Result<Moves, R
 pub fn data_sum(side: usize, words: &mut [u32]) -> Result<Moves, Refusal>
     ensures { PlainDataSum side words (answer_of result) }
 {
-    let moves = judge_data_sum(side, words.len())?;
+    check_words(side, words.len())?;
     let sum = total(words);
     words.fill(sum);
-    Ok(moves)
+    Ok(Moves {
+        electronic: 8 * (side - 1),
+        swaps: 1,
+    })
 }
 
 // Every word becomes the sum of the words up to it, modulo 2^32.
 pub fn prefix_sum(side: usize, words: &mut [u32]) -> Result<Moves, Refusal>
     ensures { PlainPrefixSum side words (answer_of result) }
 {
-    let moves = judge_prefix_sum(side, words.len())?;
+    check_words(side, words.len())?;
     add_up(words);
-    Ok(moves)
+    Ok(Moves {
+        electronic: total_moves(side) - 2,
+        swaps: 2,
+    })
 }
 
 // Every word moves by k along its row or column, of the mesh or of the groups.
@@ -79,6 +86,7 @@ pub fn shift(
     ensures { PlainShift side axis edge k words (answer_of result) }
 {
     let moves = judge_shift(side, axis, edge, k, words.len())?;
-    shift_along(side, axis, edge, Distance::from(k), words);
+    let k = Distance::from(k);
+    NearShift { side, edge, k }.along(axis, words);
     Ok(moves)
 }

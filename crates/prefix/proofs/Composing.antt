@@ -1,9 +1,11 @@
 -- How the parts of the code make up the nine steps.
 use Prim.Native.Nat.{ℕ, ◌-◌, ◌^◌, ◌<◌}
 use mathlib.Core.Path.{◌≡◌, refl, ◌∙◌}
-use mathlib.Core.Bool.{true}
+use mathlib.Core.Bool.{Bool, true, false, cond, ◌&&◌}
 use mathlib.Core.List.{List}
 use native.Mathlib.Omega.{arith}
+use borrow.Author.Tests.{leb-false}
+use lib.Dec.{leb}
 use lib.ListN.{length, get_or}
 use Rattle.array.specs.declared.moves.Way.{Way}
 use Rattle.array.specs.declared.moves.Way.TheVariants.{Right, Left, Up, Down}
@@ -14,9 +16,9 @@ use Rattle.lanes.specs.Machine.{State}
 use Rattle.sums.specs.Sums.{plus, minus, combined_words}
 use Rattle.lanes.specs.Runs.{ran_words}
 use Rattle.lanes.specs.Inside.{Lane, Moves, swapped_state}
-use Rattle.lanes.proofs.Held.{board_known, lane_load, lane-words, ran-lane, swapped-lane, combined_lane}
+use Rattle.lanes.proofs.Held.{board_known, sizes, lane_load, lane-words, ran-lane, swapped-lane, combined_lane}
 use Rattle.prefix.specs.Programs.{prefixed}
-use Rattle.prefix.specs.Results.{prefix_sum_lane}
+use Rattle.prefix.specs.Results.{prefix_sum_words, prefix_sum_lane}
 use Rattle.prefix.specs.Inside.{summed, copied, RowsAndColumns, GroupSums, Modified, Finished}
 use Rattle.prefix.proofs.Adding.{parts_are, prefix_sum_lanes, prefix_sum-all}
 
@@ -72,3 +74,14 @@ pub prefix_done : (s : ℕ) (l l' : List ℕ) → is_board s (length l) ≡ true
 prefix_done s l l' b small x =
     let k = board_known s (length l) b in
     rw b (lane-words (x.so _ (lane_load k)) ∙ prefix_sum-all s l k.least small)
+
+-- room for 4,096 words is room for every board
+pub all_within : (s : ℕ) (l : List ℕ) {l' : List ℕ}
+    → l' ≡ cond (leb (length l) 4096 && leb 4096 4096) (prefix_sum_lane s l) l → l' ≡ prefix_sum_lane s l
+all_within s l e = e ∙ go (leb (length l) 4096) (is_board s (length l)) refl refl
+  where
+    go : (t u : Bool) → leb (length l) 4096 ≡ t → is_board s (length l) ≡ u
+        → cond (t && true) (cond u (prefix_sum_words s l) l) l ≡ cond u (prefix_sum_words s l) l
+    go true u h k = refl
+    go false false h k = refl
+    go false true h k = absurd (omega (arith, (sizes (board_known s (length l) k)).few, leb-false (length l) 4096 h))

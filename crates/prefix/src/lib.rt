@@ -1,7 +1,7 @@
 // Prefix sum, on a lane of words, in the paper's nine steps.
 #![tactic(auto)]
 
-ghost use Rattle.std.specs.Prelude.{◌≡◌, cond, ◌≤◌, length, ltb};
+ghost use Rattle.std.specs.Prelude.{◌≡◌, cond, ◌&&◌, ◌≤◌, leb, length};
 ghost use Rattle.lanes.specs.Inside.{FitsBoard, Moves};
 ghost use Rattle.prefix.specs.Programs.{prefixed};
 ghost use Rattle.prefix.specs.Results.{prefix_sum_lane};
@@ -94,14 +94,13 @@ fn sum_within<const N: usize>(words: &mut [u32], side: usize)
     prefix_lanes(words, &mut c[..n], &mut y[..n], &mut z[..n], side);
 }
 
-fn sum_up(words: &mut [u32], side: usize)
-    requires { FitsBoard side (length words.old) }
-    ensures { Moves side (prefixed side) words.old words.new }
+// The prefix sums of a lane of N words at most, with room for N: of other words, and of a room beyond a board's, they stay as they are.
+// Room for 4,096 words is touched page by page at every call, which takes longer than the moves of a small board.
+pub fn prefix_within<const N: usize>(side: usize, words: &mut [u32])
+    ensures { words.new ≡ cond (leb (length words.old) N && leb N 4096) (prefix_sum_lane side words.old) words.old }
 {
-    if words.len() <= 256 {
-        sum_within::<256>(words, side);
-    } else {
-        sum_within::<4096>(words, side);
+    if N <= 4096 && words.len() <= N && is_board(side, words.len()) {
+        sum_within::<N>(words, side);
     }
 }
 
@@ -109,22 +108,9 @@ fn sum_up(words: &mut [u32], side: usize)
 pub fn prefix_words(side: usize, words: &mut [u32])
     ensures { words.new ≡ prefix_sum_lane side words.old }
 {
-    if !is_board(side, words.len()) {
-        return;
+    if words.len() <= 256 {
+        prefix_within::<256>(side, words);
+    } else {
+        prefix_within::<4096>(side, words);
     }
-    sum_up(words, side);
-}
-
-// The same on a board of side 2 at most; other words stay. A function that has room for lanes of 4,096 words touches each page of it at
-// every call, which takes longer than these moves.
-pub fn prefix_least(side: usize, words: &mut [u32])
-    ensures { words.new ≡ cond (ltb 16 (length words.old)) words.old (prefix_sum_lane side words.old) }
-{
-    if 16 < words.len() {
-        return;
-    }
-    if !is_board(side, words.len()) {
-        return;
-    }
-    sum_within::<16>(words, side);
 }

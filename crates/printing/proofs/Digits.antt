@@ -1,10 +1,11 @@
 -- The digits of a number: how many there are, and that they are put one after the other.
-use Rattle.std.proofs.Common.{◌≡◌, refl, ℕ, zero, suc, ◌+◌, ◌-◌, ◌/◌, ◌%◌, ◌≤◌, ◌<◌, Bool, true, false, cond, [], ◌∷◌, ◌++◌, length, ltb, sub-one, arith, length-append}
-use borrow.Author.Tests.{lt-ltb, le-ltb}
+use Rattle.std.proofs.Common.{◌≡◌, ℕ, zero, suc, ◌+◌, ◌/◌, ◌%◌, List, rules, ◌^◌, ◌≤◌, ◌<◌, Bool, true, false, cond, [], ◌∷◌, ◌++◌, length, ltb, arith, length-append}
+use Rattle.std.specs.Fmt as fmt
+use Rattle.std.proofs.lemmas.Fmt.{decimal_from_appends, length-decimal-le}
 use Rattle.printing.specs.Printed.{digits, decimal, field}
 use Rattle.printing.specs.declared.Printer.{Printer}
 use Rattle.printing.specs.Printers.{Put}
-use Rattle.printing.proofs.Putting.{put_nothing, put_then}
+use Rattle.printing.proofs.Putting.{put_then}
 
 few_digits : (k n : ℕ) → length (digits k n) ≤ k
 unfolding digits
@@ -19,24 +20,12 @@ few_digits (suc k) n = go (ltb n 10) (few_digits k (n / 10))
 pub decimal_short : (n : ℕ) → length (decimal n) ≤ 20
 decimal_short n = few_digits 20 n
 
-pub digits_none : (most n : ℕ) {a : Printer} → most ≡ 0 → Put (digits most n) a a
+-- it is what the library writes
+pub library_decimal : (n : ℕ) → n < 2 ^ 64 → decimal n ≡ fmt.decimal n
 unfolding digits
-digits_none zero n {a} e = put_nothing a
-digits_none (suc k) n e = absurd (omega arith)
+library_decimal n h = decimal_from_appends digits (search rules) 20 n h (length-decimal-le 20 n (omega arith) (omega arith) h)
 
-pub digits_one : (most n : ℕ) {a b : Printer} → (most ≡ 0 → ⊥) → n < 10 → Put ((48 + n % 10) ∷ []) a b → Put (digits most n) a b
-unfolding digits
-digits_one zero n z h p = absurd (z refl)
-digits_one (suc k) n z h p = let e : n % 10 ≡ n = omega arith in rw (lt-ltb n 10 h) (rw e at p)
-
-pub digits_more : (most n : ℕ) {a b c : Printer} → (most ≡ 0 → ⊥) → 10 ≤ n → Put (digits (most - 1) (n / 10)) a b → Put ((48 + n % 10) ∷ []) b c
-    → Put (digits most n) a c
-unfolding digits
-digits_more zero n z h p q = absurd (z refl)
-digits_more (suc k) n {a} {b} z h p q =
-    let r : Put (digits k (n / 10)) a b = rw sub-one at p in
-    rw (le-ltb n 10 h) (put_then r q)
-
-pub field_put : (n after : ℕ) {a b c : Printer} → Put (digits 20 n) a b → Put (after ∷ []) b c → Put (field n after) a c
+pub field_put : (n after : ℕ) → n < 2 ^ 64 → {text : List ℕ} → text ≡ fmt.decimal n → {a b c : Printer} → Put text a b → Put (after ∷ []) b c
+    → Put (field n after) a c
 unfolding field
-field_put n after p q = put_then p q
+field_put n after h e p q = rw (library_decimal n h, ← e) (put_then p q)

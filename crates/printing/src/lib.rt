@@ -1,8 +1,11 @@
 // Writing: texts are put into a lent buffer, one behind the other, as far as the buffer goes.
+// The library's write! promises its text only where it returns Ok, and here every text is promised; so nothing is a Display.
 #![tactic(auto)]
 
 ghost use Rattle.std.specs.Prelude.{◌≡◌, [], ◌∷◌};
-ghost use Rattle.printing.specs.Printed.{digits, field};
+ghost use Rattle.printing.specs.Printed.{field};
+
+use itoa::Buffer;
 
 // A lent buffer, and where the next text goes.
 #[derive(Debug, Drop)]
@@ -35,29 +38,18 @@ impl<'a> Printer<'a> {
     pub fn put(&mut self, text: &[u8])
         ensures { Put text.now self.old self.new }
     {
-        for byte in text {
-            self.put_byte(*byte);
+        for &byte in text {
+            self.put_byte(byte);
         }
     }
 
-    // The last `most` digits of n, with no leading zero.
-    fn put_digits(&mut self, n: usize, most: usize)
-        ensures { Put (digits most n) self.old self.new }
-    {
-        if most == 0 {
-            return;
-        }
-        if n >= 10 {
-            self.put_digits(n / 10, most - 1);
-        }
-        self.put_byte(b'0' + (n % 10) as u8);
-    }
-
-    // A number and the byte after it.
+    // A number in decimal, and the byte after it.
     pub fn put_field(&mut self, n: usize, after: u8)
         ensures { Put (field n after) self.old self.new }
     {
-        self.put_digits(n, 20);
+        let mut buffer = Buffer::new();
+        let digits = buffer.format(n);
+        self.put(digits.as_bytes());
         self.put_byte(after);
     }
 }

@@ -1,15 +1,14 @@
 -- From prefix sums to ranks.
 use Prim.Native.Nat.{ℕ, zero, suc, ◌%◌, ◌^◌, ◌≤◌, ◌<◌}
 use mathlib.Core.Path.{◌≡◌, refl, sym, ap, ◌∙◌}
-use mathlib.Core.Bool.{Bool, true, false, cond}
+use mathlib.Core.Bool.{Bool, true, false, cond, ◌&&◌}
 use mathlib.Core.List.{List, [], ◌∷◌, map}
 use native.Mathlib.Omega.{arith}
-use lib.Dec.{eqb, ltb}
+use lib.Dec.{eqb, leb}
 use lib.ListN.{length, get_or}
-use borrow.Author.Tests.{eqb-true, eq-eqb, le-ltb}
+use borrow.Author.Tests.{eqb-true, eq-eqb, le-leb}
 use native.Mathlib.Nat.{mod-eq_of_lt}
 use Rattle.laws.specs.Sums.{sum_of}
-use Rattle.laws.specs.Tables.{entries}
 use Rattle.laws.proofs.Tables.{length-entries, entry_at}
 use Rattle.array.specs.Cells.{cells, is_board}
 use Rattle.array.proofs.Board.{side_known}
@@ -42,9 +41,6 @@ module _ {marks sums : List ℕ} (z : Summed marks sums) (i : ℕ) (h : i < leng
   pub sum_few : get_or sums i 0 ≤ 4096
   sum_few = omega (arith, z.sums_are i h, few_marked marks (suc i) (λ k u. z.good k (omega arith)), z.few)
 
-  pub aim_is : aim_of (get_or marks i 0) (get_or sums i 0) ≡ aim_in marks i
-  aim_is = one_off marks i (get_or sums i 0) (z.sums_are i h)
-
 -- the prefix sums of good marks
 summed-marks : (s : ℕ) (marks sums : List ℕ) → GoodMarks s marks → sums ≡ cond (is_board s (length marks)) (prefix_sum_words s marks) marks → Summed marks sums
 summed-marks s marks sums z e = record {
@@ -66,20 +62,16 @@ summed-marks s marks sums z e = record {
         (entry_at (λ i. sum_of (suc i) marks % 2 ^ 32) (cells s) i 0 (rw z.size at h)
         ∙ mod-eq_of_lt (omega (arith, few_marked marks (suc i) (λ k u. z.good k (omega arith)), z.size, (side_known s z.side).cells_few)))
 
-pub summed : {s : ℕ} {marks loaded sums : List ℕ} → GoodMarks s marks → loaded ≡ marks
+summed : {s : ℕ} {marks loaded sums : List ℕ} → GoodMarks s marks → loaded ≡ marks
     → sums ≡ cond (is_board s (length loaded)) (prefix_sum_words s loaded) loaded → Summed marks sums
 summed {s} {marks} {loaded} {sums} z l e = summed-marks s marks sums z (e ∙ ap (λ (w : List ℕ). cond (is_board s (length w)) (prefix_sum_words s w) w) l)
 
--- the same where the sum is made only of 16 words at most
-pub summed_least : {s : ℕ} {marks loaded sums : List ℕ} → GoodMarks s marks → length marks ≤ 16 → loaded ≡ marks
-    → sums ≡ cond (ltb 16 (length loaded)) loaded (prefix_sum_lane s loaded) → Summed marks sums
-summed_least {s} {marks} {loaded} {sums} z h l e =
-    let few : length loaded ≤ 16 = omega (arith, ap length l) in
-    summed z l (rw (le-ltb 16 (length loaded) few) at e)
-
--- and then the aims are the ranks
-pub ranks_are : (s : ℕ) (marks : List ℕ) → length marks ≡ cells s → entries (aim_in marks) 0 (length marks) ≡ ranks s marks
-ranks_are s marks h = ap (entries (aim_in marks) 0) h
+-- the same of a room of n words, in which the marks find theirs
+pub summed_within : {n s : ℕ} {marks loaded sums : List ℕ} → GoodMarks s marks → length marks ≤ n → n ≤ 4096 → loaded ≡ marks
+    → sums ≡ cond (leb (length loaded) n && leb n 4096) (prefix_sum_lane s loaded) loaded → Summed marks sums
+summed_within {n} {s} {marks} {loaded} {sums} z h few l e =
+    let room : length loaded ≤ n = omega (arith, ap length l) in
+    summed z l (rw (le-leb (length loaded) n room, le-leb n 4096 few) at e)
 
 -- the mark stays beside the registers of the stages
 abbrev beside : State Sums → State ℕ → State Ranking

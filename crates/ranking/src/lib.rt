@@ -2,19 +2,18 @@
 #![tactic(auto)]
 
 ghost use Rattle.std.specs.Prelude.{◌≡◌, ◌≤◌, length};
-ghost use Rattle.laws.specs.Lent.{new, old};
+ghost use Rattle.laws.specs.Lent.{new};
 ghost use Rattle.laws.specs.Tables.{entries};
-ghost use Rattle.prefix.specs.Results.{prefix_sum_lane};
 ghost use Rattle.lists.specs.Lists.{prefix_sum_runs};
 ghost use Rattle.answers.specs.Answers.{verdict, answer_of, accepted_by};
-ghost use Rattle.ranking.specs.Ranks.{aim_in, aim_of, ranks};
+ghost use Rattle.ranking.specs.Ranks.{aim_in, ranks};
 ghost use Rattle.ranking.specs.Inside.{Summed, GoodMarks};
 ghost use Rattle.ranking.specs.Entries.{rank_cases, Ranked};
 
 use answers::{Moves, Refusal, check_lane, check_log, check_side, moves_of};
 use lists::prefix_sum_runs;
 use marks::check_marks;
-use prefix::{prefix_least, prefix_words};
+use prefix::prefix_within;
 use runs::write_codes;
 
 // The marks as words.
@@ -22,40 +21,20 @@ fn load_marks(marks: &[u8], sums: &mut [u32])
     requires { length marks.now ≡ length sums.old }
     ensures { new sums ≡ marks.now }
 {
-    for i in 0..marks.len() {
-        sums[i] = u32::from(marks[i]);
+    for (i, sum) in sums.iter_mut().enumerate() {
+        *sum = u32::from(marks[i]);
     }
 }
 
-// One is taken off first, so that no branch hangs on the mark.
-fn aim(mark: u8, sum: u32) -> u16
-    requires { sum ≤ 4096 }
-    ensures { result ≡ aim_of mark sum }
-{
-    let rank = sum.saturating_sub(1) as u16;
-    if mark == 1 { rank } else { 0 }
-}
-
-// The aims, of the marks and their prefix sums.
+// The aims, of the marks and their prefix sums. One is taken off first, so that no branch hangs on the mark.
 fn set_aims(marks: &[u8], sums: &[u32], aims: &mut [u16])
     requires summed { Summed marks.now sums.now }
     requires aims_len { length aims.old ≡ length marks.now }
     ensures { new aims ≡ entries (aim_in marks.now) 0 (length marks.now) }
 {
-    for i in 0..marks.len() {
-        aims[i] = aim(marks[i], sums[i]);
-    }
-}
-
-// The prefix sums of a lane of at most N words. On a board of side 2 at most they are made without the room that they have for larger ones.
-fn sum_up<const N: usize>(side: usize, sums: &mut [u32])
-    requires { length sums.old ≤ N }
-    ensures { new sums ≡ prefix_sum_lane side (old sums) }
-{
-    if N <= 16 {
-        prefix_least(side, sums);
-    } else {
-        prefix_words(side, sums);
+    for (i, aim) in aims.iter_mut().enumerate() {
+        let rank = sums[i].saturating_sub(1) as u16;
+        *aim = if marks[i] == 1 { rank } else { 0 };
     }
 }
 
@@ -70,7 +49,7 @@ fn write_within<const N: usize>(side: usize, marks: &[u8], aims: &mut [u16])
     let mut sums = [0u32; N];
     let sums = &mut sums[..marks.len()];
     load_marks(marks, sums);
-    sum_up::<N>(side, sums);
+    prefix_within::<N>(side, sums);
     set_aims(marks, sums, aims);
 }
 

@@ -1,15 +1,21 @@
 -- Aims judged all together: what is wrong is joined over the cells, and where nothing is, no aim is wrong.
 use Prim.Native.Nat.{ℕ, zero, suc, ◌+◌, ◌-◌, ◌%◌, ◌^◌, ◌≤◌, ◌<◌}
-use mathlib.Core.Path.{◌≡◌, refl, ap, ◌∙◌}
-use mathlib.Core.Bool.{Bool, true, false, not, ◌&&◌, ◌||◌}
+use mathlib.Core.Path.{◌≡◌, refl, sym, ap, ◌∙◌}
+use mathlib.Core.Bool.{Bool, true, false, ◌&&◌}
 use mathlib.Core.List.{List, [], ◌∷◌}
 use mathlib.Core.Logic.{⊎_elim}
 use native.Mathlib.Nat.{add-zero, add-suc, mod-eq_of_lt}
-use native.Mathlib.Numerals.{add-one}
 use native.Mathlib.Omega.{arith}
 use borrow.Author.Tests.{eqb-true, lt-ltb, le-ltb, ltb-true, lt-leb}
 use lib.Dec.{ltb, leb, eqb}
-use lib.ListN.{length, get_or}
+use lib.ListN.{length, get_or, take, drop}
+use lib.Seq.{length-take-le}
+use Rattle.std.proofs.lemmas.List.{get_or-take}
+use denote.Ref.{Bor}
+use Rattle.std.specs.Prelude.{Option, Some, MatchOption}
+use Rattle.std.proofs.lemmas.Iterator.{window_more}
+use Rattle.std.specs.Slice.Iter.{windows_rest, windows_size}
+use Rattle.std.specs.declared.slice.Windows.{Windows}
 use Rattle.laws.proofs.Deciding.{apart}
 use Rattle.laws.proofs.Searching.{all_passed}
 use Rattle.laws.proofs.Bools.{both_left, both_right}
@@ -52,22 +58,44 @@ pub record RankedBelow (marks aims : List ℕ) (all : Bool) (rank i : ℕ) : Typ
   pub few : rank ≤ i
   pub none : all ≡ true → (k : ℕ) → k < i → bad_aim Concentrate 0 marks aims k ≡ false
 
--- a marked cell's aim is wrong just where it is not the rank
-not_wrong : (marked ranked : Bool) → (not marked || ranked) ≡ true → (marked && not ranked) ≡ false
-not_wrong true true h = refl
-not_wrong true false h = cc
-not_wrong false ranked h = refl
+-- the aims before the window that comes next rise
+pub record Rising (aims : List ℕ) (w : Windows ℕ) (all : Bool) : Type 0 where
+  pub size : windows_size w ≡ 2
+  pub short : length (windows_rest w) ≤ length aims
+  pub rest : windows_rest w ≡ drop (length aims - length (windows_rest w)) aims
+  pub rises : AllRising (suc (length aims - length (windows_rest w))) aims all
 
-module _ (marks aims : List ℕ) where
-  pub ranked_next : {all : Bool} {rank i : ℕ} → get_or marks i 0 < 2 → RankedBelow marks aims all rank i
-      → RankedBelow marks aims (all && (not (eqb (get_or marks i 0) 1) || eqb (get_or aims i 0) rank)) (rank + get_or marks i 0) (i + 1)
-  ranked_next {all} {rank} {i} g z = record {
-    rank_is = rw add-one (ap (λ (n : ℕ). n + get_or marks i 0) z.rank_is);
-    few = omega (arith, z.few);
-    none = λ h.
-        let here = not_wrong (eqb (get_or marks i 0) 1) (eqb (get_or aims i 0) rank) (both_right all _ h) in
-        also (bad_aim Concentrate 0 marks aims) i (z.none (both_left all _ h)) (rw z.rank_is at here);
-  }
+-- one window more
+pub rising_next : {aims : List ℕ} {w v : Windows ℕ} {all : Bool} {r : Option (Bor (List ℕ))} {pair : Bor (List ℕ)}
+    → r ≡ Some pair
+    → (windows_size v ≡ windows_size w)
+    × MatchOption r ((length (windows_rest w) < windows_size w) × (v ≡ w))
+    (λ x. (windows_size w ≤ length (windows_rest w)) × (x.now ≡ take (windows_size w) (windows_rest w))
+    × (windows_rest v ≡ drop 1 (windows_rest w)) × (length x.now ≡ windows_size w))
+    → Rising aims w all → Rising aims v (all && ltb (get_or pair.now 0 0) (get_or pair.now 1 0))
+rising_next {aims} {w} {v} {all} {r} {pair} e p z =
+    let i = length aims - length (windows_rest w) in
+    let m = window_more aims w v r pair e p (omega (arith, z.size)) z.short z.rest in
+    let at : (j : ℕ) → j < 2 → get_or pair.now j 0 ≡ get_or aims (i + j) 0 = λ j h. m.3 j 0 (omega (arith, z.size)) in
+    let next : suc (length aims - length (windows_rest v)) ≡ i + 1 + 1 = omega (arith, m.0, z.short) in
+    record {
+      size = p.0 ∙ z.size;
+      short = omega (arith, m.0, z.short);
+      rest = m.1;
+      rises = rw next (record {
+        each = λ h j l u. ⊎_elim (λ b. z.rises.each (both_left all _ h) j l (omega arith)) (λ b. here _ at h j (omega arith)) (apart j (i + 1));
+      });
+    }
+  where
+    here : (i : ℕ) → ((j : ℕ) → j < 2 → get_or pair.now j 0 ≡ get_or aims (i + j) 0)
+        → (all && ltb (get_or pair.now 0 0) (get_or pair.now 1 0)) ≡ true → (j : ℕ) → j ≡ i + 1
+        → get_or aims (j - 1) 0 < get_or aims j 0
+    here i at h j e =
+        let first : i + 0 ≡ j - 1 = omega arith in
+        let second : i + 1 ≡ j = omega arith in
+        let a : get_or pair.now 0 0 ≡ get_or aims (j - 1) 0 = at 0 (omega arith) ∙ ap (λ (k : ℕ). get_or aims k 0) first in
+        let b : get_or pair.now 1 0 ≡ get_or aims j 0 = at 1 (omega arith) ∙ ap (λ (k : ℕ). get_or aims k 0) second in
+        omega (arith, ltb-true (get_or pair.now 0 0) (get_or pair.now 1 0) (both_right all _ h))
 
 abbrev pub falling : List ℕ → ℕ → Bool
 falling aims i = ltb 0 i && leb (get_or aims i 0) (get_or aims (i - 1) 0)
@@ -133,7 +161,19 @@ pub count_few : (marks : List ℕ) {count : ℕ} → length marks ≤ 4096 → (
     → count ≡ rank_in marks (length marks) % 2 ^ 16 → count ≤ length marks
 count_few marks few good e = omega (arith, count_is marks few good e, few_marked marks (length marks) good)
 
--- the three tests together
-pub aimed_all : (s : ℕ) (marks aims : List ℕ) {count : ℕ} {marked rising ends : Bool} → count ≡ rank_in marks (length marks) → AllMarked count marks marked
-    → AllRising count aims rising → LastInside s count aims ends → marked ≡ true → rising ≡ true → NoneBad Distribute s marks aims ends
-aimed_all s marks aims {count} c m r l p q = record { none = λ h. none_wrong s marks aims count c (m.each p) (r.each q) (l.cell h) }
+-- the three tests together, of the first cells, as many as there are marks
+pub aimed_all : (s : ℕ) (marks aims : List ℕ) {count : ℕ} {marked rising ends : Bool} → count ≡ rank_in marks (length marks)
+    → count ≤ length marks → count ≤ length aims
+    → AllMarked (length (take count marks)) (take count marks) marked → AllRising (length (take count aims)) (take count aims) rising
+    → LastInside s (length (take count aims)) (take count aims) ends → marked ≡ true → rising ≡ true → NoneBad Distribute s marks aims ends
+aimed_all s marks aims {count} c k n m r l p q =
+    let m' = rw (length-take-le count marks k) at m in
+    let r' = rw (length-take-le count aims n) at r in
+    let l' = rw (length-take-le count aims n) at l in
+    let first : (xs : List ℕ) (i : ℕ) → i < count → get_or (take count xs) i 0 ≡ get_or xs i 0 = λ xs i h. get_or-take count xs i 0 h in
+    record {
+      none = λ h. none_wrong s marks aims count c
+          (λ i u. sym (first marks i u) ∙ m'.each p i u)
+          (λ i o u. omega (arith, r'.each q i o u, first aims (i - 1) (omega arith), first aims i u))
+          (λ o. rw (first aims (count - 1) (omega arith)) at (l'.cell h o));
+    }

@@ -23,7 +23,7 @@ use Rattle.marks.specs.Marks.{marks_case}
 use Rattle.marks.proofs.Checked.{good_marks}
 use Rattle.refusals.specs.declared.Sizes.{Sizes}
 use Rattle.refusals.specs.Cases.{bad_aim, aims_case, cut_case, lane_cases, lanes_of, sizes_in, Framed, full_cases, full_of, cut_cases, cut_of, Good}
-use Rattle.refusals.specs.Inside.{GoodMarks}
+use Rattle.refusals.specs.Inside.{OneBoard, GoodMarks}
 use Rattle.refusals.specs.declared.Frame.{Frame}
 use Rattle.std.specs.Prelude.{Result, Ok}
 use Rattle.answers.specs.declared.Refusal.{Refusal}
@@ -100,16 +100,15 @@ cut_known trip s cut n marks aims e h =
     let x : (is_side s && ltb (total_moves s) cut) ≡ false = o.1.1.0 in
     record { fits = f; good = good_by trip s marks aims o.0 o.1.0; inside = ltb-false (total_moves s) cut (rw f.side at x) }
 
--- what the judging of the aims may take for granted
-pub good_frame : (t : Frame) {r q : Result (Unit {0}) Refusal} {u v : Unit {0}} → Judged (lanes_of t) r → r ≡ Ok u → Judged (marks_case t.marks.now ∷ []) q → q ≡ Ok v
-    → GoodMarks t.marks.now t.aims.now
-good_frame t j e k f =
+-- what the judging of the marks may take for granted, and that of the aims
+pub one_board : (t : Frame) {r : Result (Unit {0}) Refusal} {u : Unit {0}} → Judged (lanes_of t) r → r ≡ Ok u → OneBoard t.marks.now t.aims.now
+one_board t j e =
     let z = fitting t.side (length t.marks.now) (length t.aims.now) t.sizes [] (none_judged j refl e) in
-    record {
-      long = z.marks ∙ sym z.aims;
-      few = omega (arith, z.marks, (side_known t.side z.side).cells_few);
-      good = good_marks t.marks.now (none_judged k refl f).0;
-    }
+    record { long = z.marks ∙ sym z.aims; few = omega (arith, z.marks, (side_known t.side z.side).cells_few) }
+
+pub checked_marks : {marks aims : List ℕ} {r : Result (Unit {0}) Refusal} {u : Unit {0}} → OneBoard marks aims
+    → Judged (marks_case marks ∷ []) r → r ≡ Ok u → GoodMarks marks aims
+checked_marks {marks} z j e = record { long = z.long; few = z.few; good = good_marks marks (none_judged j refl e).0 }
 
 -- the answers of a frame are those of the lanes that it was made of
 module _ {s : ℕ} {t u : LentSlots} {f : Frame} (z : Framed s t u f) (trip : Trip) {r : Answer} where

@@ -11,6 +11,11 @@ found_aim trip t =
     let i = first_aim trip t.side t.marks.now t.aims.now in
     cond (ltb i (length t.marks.now)) (Some i) None
 
+-- as many marks as aims, and no more than a board has
+pub record OneBoard (marks aims : List ℕ) : Type 0 where
+  pub long : length marks ≡ length aims
+  pub few : length marks ≤ 4096
+
 -- marks that are 0 or 1, no more than a board has, and as many aims
 pub record GoodMarks (marks aims : List ℕ) : Type 0 where
   pub long : length marks ≡ length aims

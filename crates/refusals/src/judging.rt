@@ -1,47 +1,51 @@
 // The checks of concentrate and distribute, and the runs of the moves that a cut run makes.
-ghost use Rattle.std.specs.Prelude.{◌≡◌, ◌&&◌, ◌||◌, ◌<◌, ◌≤◌, [], ◌∷◌, length};
+ghost use Rattle.std.specs.Prelude.{◌≡◌, ◌&&◌, ◌||◌, ◌<◌, ◌≤◌, [], ◌∷◌, ◌++◌, length, ltb, is_some, unwrap_or};
 ghost use Rattle.answers.specs.Judged.{Judged};
 ghost use Rattle.lists.specs.declared.Trip.TheVariants.{Concentrate, Distribute};
+ghost use Rattle.marks.specs.Marks.{marks_case};
 ghost use Rattle.refusals.specs.Cases.{bad_in, aims_of, cut_case, lanes_of};
 ghost use Rattle.refusals.specs.Cuts.{first_runs};
-ghost use Rattle.refusals.specs.Inside.{GoodMarks, AllMarked, AllRising, LastInside, NoneBad, found_aim};
+ghost use Rattle.refusals.specs.Inside.{OneBoard, GoodMarks, AllMarked, AllRising, LastInside, NoneBad, found_aim};
 
 use crate::Frame;
 use answers::{Refusal, check_lane, check_side};
 use array::cells::{is_cell, is_side};
 use lists::{Trip, total_moves};
-use marks::count_marks;
-use runs::{Run, no_runs};
+use marks::{check_marks, count_marks};
+use runs::Run;
 
-// What is known of a cell when its aim is judged: its index and rank, its mark and aim, and the aim before it.
+// What is known of a cell when its aim is judged: its index and rank, its mark and aim, and the aim before it, which the first has none of.
 #[derive(Clone, Copy, Debug, PartialEq, Eq)]
 struct Marker {
     cell: usize,
     rank: usize,
     mark: u8,
     aim: u16,
-    previous: u16,
+    previous: Option<u16>,
 }
 
 // A marked cell is wrong in concentrate where its aim is not its rank.
 fn bad_rank(c: Marker) -> bool
-    ensures { result ≡ bad_in Concentrate 0 c.cell c.rank c.mark c.aim c.previous }
+    ensures { result ≡ bad_in Concentrate 0 c.cell c.rank c.mark c.aim (unwrap_or c.previous 0) }
 {
     c.mark == 1 && usize::from(c.aim) != c.rank
 }
 
 // And in distribute where it comes after an unmarked one, or its aim is no cell or not above the aim before it.
 fn bad_aim(side: usize, c: Marker) -> bool
-    ensures { result ≡ bad_in Distribute side c.cell c.rank c.mark c.aim c.previous }
+    requires { is_some c.previous ≡ ltb 0 c.cell }
+    ensures { result ≡ bad_in Distribute side c.cell c.rank c.mark c.aim (unwrap_or c.previous 0) }
 {
     c.mark == 1
         && (c.rank < c.cell
-            || (!is_cell(side, usize::from(c.aim)) || (0 < c.cell && c.aim <= c.previous)))
+            || (!is_cell(side, usize::from(c.aim))
+                || c.previous.is_some_and(|previous| c.aim <= previous)))
 }
 
 // What is wrong with a cell's aim.
 fn bad(trip: Trip, side: usize, c: Marker) -> bool
-    ensures { result ≡ bad_in trip side c.cell c.rank c.mark c.aim c.previous }
+    requires { is_some c.previous ≡ ltb 0 c.cell }
+    ensures { result ≡ bad_in trip side c.cell c.rank c.mark c.aim (unwrap_or c.previous 0) }
 {
     match trip {
         Trip::Concentrate => bad_rank(c),
@@ -55,68 +59,67 @@ fn search_aims(trip: Trip, frame: Frame) -> Option<usize>
     ensures { result ≡ found_aim trip frame.entry }
 {
     let mut rank: usize = 0;
-    let mut previous: u16 = 0;
-    for i in 0..frame.marks.len() {
+    let mut previous = None;
+    for (cell, (&mark, &aim)) in frame.marks.iter().zip(frame.aims).enumerate() {
         let c = Marker {
-            cell: i,
+            cell,
             rank,
-            mark: frame.marks[i],
-            aim: frame.aims[i],
+            mark,
+            aim,
             previous,
         };
         if bad(trip, frame.side, c) {
-            return Some(i);
+            return Some(cell);
         }
-        rank += usize::from(c.mark);
-        previous = c.aim;
+        rank += usize::from(mark);
+        previous = Some(aim);
     }
     None
 }
 
-// Every marked cell's aim is its rank. What is wrong is joined over all cells, so that no branch hangs on a mark.
+// Every marked cell's aim is its rank. What is wrong is joined over all cells, so that no branch hangs on a mark. Marks and aims zipped would
+// be tested for their end twice a cell, which takes plain concentrate a sixth longer.
 fn all_ranked(marks: &[u8], aims: &[u16]) -> bool
     requires { GoodMarks marks.now aims.now }
     ensures { NoneBad Concentrate 0 marks.now aims.now result }
 {
     let mut all = true;
     let mut rank: usize = 0;
-    for i in 0..marks.len() {
-        all &= (marks[i] != 1) | (usize::from(aims[i]) == rank);
-        rank += usize::from(marks[i]);
+    for (i, &mark) in marks.iter().enumerate() {
+        all &= (mark != 1) | (usize::from(aims[i]) == rank);
+        rank += usize::from(mark);
     }
     all
 }
 
-// The first cells, so many, are marked.
-fn all_marked(count: usize, marks: &[u8]) -> bool
-    requires { count ≤ length marks.now }
-    ensures { AllMarked count marks.now result }
+// All of these marks are set.
+fn all_marked(marks: &[u8]) -> bool
+    ensures { AllMarked (length marks.now) marks.now result }
 {
     let mut all = true;
-    for &mark in &marks[..count] {
+    for &mark in marks {
         all &= mark == 1;
     }
     all
 }
 
-// The aims of the first cells, so many, rise.
-fn all_rising(count: usize, aims: &[u16]) -> bool
-    requires { count ≤ length aims.now }
-    ensures { AllRising count aims.now result }
+// These aims rise.
+fn all_rising(aims: &[u16]) -> bool
+    ensures { AllRising (length aims.now) aims.now result }
 {
     let mut all = true;
-    for i in 1..count {
-        all &= aims[i - 1] < aims[i];
+    for pair in aims.windows(2) {
+        all &= pair[0] < pair[1];
     }
     all
 }
 
-// The aim of the last of so many cells is on the board; where there is none, so is it.
-fn last_inside(side: usize, count: usize, aims: &[u16]) -> bool
-    requires { count ≤ length aims.now }
-    ensures { LastInside side count aims.now result }
+// The last of these aims is on the board; where there is none, so is it.
+fn last_inside(side: usize, aims: &[u16]) -> bool
+    ensures { LastInside side (length aims.now) aims.now result }
 {
-    count == 0 || is_cell(side, usize::from(aims[count - 1]))
+    aims.last()
+        .is_none_or(|&aim| is_cell(side, usize::from(aim)))
 }
 
 // As many first cells are marked as there are marks, and their aims rise and end on the board.
@@ -125,7 +128,8 @@ fn all_aimed(side: usize, marks: &[u8], aims: &[u16]) -> bool
     ensures { NoneBad Distribute side marks.now aims.now result }
 {
     let count = count_marks(marks);
-    all_marked(count, marks) && (all_rising(count, aims) && last_inside(side, count, aims))
+    let (marks, aims) = (&marks[..count], &aims[..count]);
+    all_marked(marks) && (all_rising(aims) && last_inside(side, aims))
 }
 
 fn all_good(trip: Trip, frame: Frame) -> bool
@@ -139,7 +143,7 @@ fn all_good(trip: Trip, frame: Frame) -> bool
 }
 
 // The first cell whose aim is wrong is looked for only where there is one.
-pub(crate) fn check_aims(trip: Trip, frame: Frame) -> Result<(), Refusal>
+fn check_aims(trip: Trip, frame: Frame) -> Result<(), Refusal>
     requires { GoodMarks frame.marks.now frame.aims.now }
     ensures { Judged (aims_of trip frame.entry ∷ []) result }
 {
@@ -162,6 +166,15 @@ pub(crate) fn check_cut(side: usize, cut: usize) -> Result<(), Refusal>
     }
 }
 
+// The marks, and then the aims, of lanes of one board.
+pub(crate) fn check_marked(trip: Trip, frame: Frame) -> Result<(), Refusal>
+    requires { OneBoard frame.marks.now frame.aims.now }
+    ensures { Judged (marks_case frame.entry.marks.now ∷ aims_of trip frame.entry ∷ []) result }
+{
+    check_marks(frame.marks)?;
+    check_aims(trip, frame)
+}
+
 // The side and six lanes.
 pub(crate) fn check_lanes(frame: Frame) -> Result<(), Refusal>
     ensures { Judged (lanes_of frame.entry) result }
@@ -176,19 +189,23 @@ pub(crate) fn check_lanes(frame: Frame) -> Result<(), Refusal>
     check_lane(side, frame.sizes.spare_aims)
 }
 
+// All of it but the logs and the cut.
+pub(crate) fn check_frame(trip: Trip, frame: Frame) -> Result<(), Refusal>
+    ensures { Judged (lanes_of frame.entry ++ (marks_case frame.entry.marks.now ∷ aims_of trip frame.entry ∷ [])) result }
+{
+    check_lanes(frame)?;
+    check_marked(trip, frame)
+}
+
 // The runs of the first moves of a list.
 pub(crate) fn first_runs(runs: [Run; 9], cut: usize) -> [Run; 9]
     ensures { result ≡ first_runs cut runs }
 {
-    let mut firsts = no_runs();
+    let mut firsts = runs;
     let mut remaining = cut;
-    for q in 0..9 {
-        let times = remaining.min(runs[q].times);
-        firsts[q] = Run {
-            step: runs[q].step,
-            times,
-        };
-        remaining -= times;
+    for run in firsts.iter_mut() {
+        run.times = remaining.min(run.times);
+        remaining -= run.times;
     }
     firsts
 }

@@ -9,11 +9,10 @@ ghost use Rattle.lists.specs.Lists.{runs_of};
 ghost use Rattle.refusals.specs.Cases.{Framed, full_of, cut_of};
 ghost use Rattle.refusals.specs.Cuts.{first_runs};
 
-use crate::judging::{check_aims, check_cut, check_lanes, first_runs};
+use crate::judging::{check_cut, check_frame, check_lanes, check_marked, first_runs};
 use answers::{Moves, Refusal, check_log, moves_of};
 use array::lent::LentSlots;
 use lists::{Trip, runs_of};
-use marks::check_marks;
 
 // The lengths of the lanes that are judged by their length alone.
 #[derive(Clone, Copy, Debug, PartialEq, Eq)]
@@ -60,8 +59,7 @@ pub fn judge_full(trip: Trip, frame: Frame, codes: usize, moved: usize) -> Resul
     check_lanes(frame)?;
     check_log(runs, codes)?;
     check_log(runs, moved)?;
-    check_marks(frame.marks)?;
-    check_aims(trip, frame)?;
+    check_marked(trip, frame)?;
     Ok(moves_of(runs))
 }
 
@@ -70,9 +68,7 @@ pub fn judge_cut(trip: Trip, cut: usize, frame: Frame) -> Result<Moves, Refusal>
     ensures { answer_of result ≡ verdict (cut_of trip cut frame.entry) (accepted_by (first_runs cut (runs_of trip frame.entry.side))) }
 {
     let side = frame.side;
-    check_lanes(frame)?;
-    check_marks(frame.marks)?;
-    check_aims(trip, frame)?;
+    check_frame(trip, frame)?;
     check_cut(side, cut)?;
     Ok(moves_of(first_runs(runs_of(trip, side), cut)))
 }
@@ -81,8 +77,6 @@ pub fn judge_cut(trip: Trip, cut: usize, frame: Frame) -> Result<Moves, Refusal>
 pub fn judge_unlogged(trip: Trip, frame: Frame, moves: Moves) -> Result<Moves, Refusal>
     ensures { answer_of result ≡ verdict (without_logs (full_of trip frame.entry 0 0)) (accepted moves.electronic moves.swaps) }
 {
-    check_lanes(frame)?;
-    check_marks(frame.marks)?;
-    check_aims(trip, frame)?;
+    check_frame(trip, frame)?;
     Ok(moves)
 }

@@ -9,13 +9,13 @@ use std::fs;
 use std::fs::Files;
 use texts::input::read_full;
 
-// Reads the file that a word names: how many bytes there are, or none where it cannot be read. Of a word that is too long for a name no
-// byte is handed on, and no file has an empty name. A folder can be opened, and every read of it fails.
+// Reads the file that a word names: how many bytes there are, or none where it cannot be read. No name is as long as some words. A folder can be
+// opened, and every read of it fails.
 fn read_named<R: Env + Files>(rt: &R, word: usize, text: &mut [u8; 65537]) -> Option<usize>
     ensures { IfSome result (λ n. n ≤ length text.new) }
 {
     let mut name = [0; 4096];
-    let length = rt.arg(word, &mut name).unwrap_or(0);
+    let length = rt.arg(word, &mut name).ok()?;
     let path = str::from_utf8(&name[..length]).ok()?;
     let mut file = fs::open(rt, path).ok()?;
     read_full(&mut file, text).ok()

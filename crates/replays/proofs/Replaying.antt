@@ -1,5 +1,5 @@
 -- A job that was read: rank accepts its marks, and its lanes on its board are those that it starts from.
-use Rattle.std.proofs.Common.{◌≡◌, ℕ, ◌≤◌, List, Result, Ok, Err, length, take, sym, ap, ◌∙◌, arith}
+use Rattle.std.proofs.Common.{◌≡◌, ℕ, ◌≤◌, List, Result, Ok, Err, length, take, sym, ◌∙◌, arith}
 use Rattle.array.specs.Cells.{cells}
 use Rattle.array.proofs.Board.{side_known}
 use Rattle.answers.specs.declared.Moves.{Moves}
@@ -9,7 +9,6 @@ use Rattle.answers.specs.Entry.{Entry}
 use Rattle.answers.proofs.Judging.{refusal_numbered}
 use Rattle.lists.specs.Lists.{prefix_sum_runs}
 use Rattle.texts.proofs.Reading.{part_length}
-use Rattle.printing.specs.Buffers.{OutFilled}
 use Rattle.ranking.specs.Ranks.{ranks}
 use Rattle.ranking.specs.Inside.{GoodMarks}
 use Rattle.ranking.specs.Entries.{rank_cases}
@@ -21,7 +20,7 @@ use Rattle.jobtext.specs.Lanes.{JobRead}
 use Rattle.jobtext.proofs.Boards.{part_long, part_is, part-marks, Taken, taken, refused_is}
 use Rattle.captures.specs.declared.Replayed.{Replayed}
 use Rattle.captures.specs.Replays.{replay_of}
-use Rattle.replays.specs.Outputs.{replay_line, replay_from, replay_text}
+use Rattle.replays.specs.Outputs.{replay_from}
 
 -- good marks of a board
 module _ {s : ℕ} {marks : List ℕ} (g : GoodMarks s marks) where
@@ -33,11 +32,6 @@ module _ {s : ℕ} {marks : List ℕ} (g : GoodMarks s marks) where
     -- rank does not refuse them
     pub rank_accepts : {e : Refusal} → r ≡ Err e → ⊥
     rank_accepts q = refusal_numbered q accepted
-
-    -- the aims that it leaves are the ranks
-    pub ranks_replayed : (words capture : List ℕ) {x : Result Replayed Refusal} → x ≡ replay_of s words marks aims capture
-        → x ≡ replay_of s words marks (ranks s marks) capture
-    ranks_replayed words capture e = e ∙ ap (λ (a : List ℕ). replay_of s words marks a capture) (z.lanes accepted)
 
   -- they are no more than 4,096
   pub aims_room : length marks ≤ 4096
@@ -72,8 +66,3 @@ module _ {w₀ w m₀ m : List ℕ} {r : Result Job Refusal} (text : List ℕ) (
   pub job_refused : (e : Refusal) → r ≡ Err e → (capture : List ℕ) → Err e ≡ replay_from (text_verdict text) capture
   unfolding replay_from
   job_refused e q capture = rw (refused_is text z e q)
-
--- the line of it
-pub answered : (job capture : List ℕ) {x : Result Replayed Refusal} → x ≡ replay_from (text_verdict job) capture → {a : List ℕ} {r : ℕ} {b : List ℕ}
-    → OutFilled a (replay_line x) r b → OutFilled a (replay_text job capture) r b
-answered job capture e f = rw e at f

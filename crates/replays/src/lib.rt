@@ -28,21 +28,15 @@ fn put_numbered(printer: &mut Printer, word: &[u8], number: usize)
 }
 
 // The line of a replay that is not refused.
-fn put_replayed(printer: &mut Printer, replayed: Replayed)
-    ensures { Put (replayed_line replayed) printer.old printer.new }
-{
-    match replayed {
-        Replayed::Agrees => printer.put(b"agrees\n"),
-        Replayed::Differs(number) => put_numbered(printer, b"differs", number),
-        Replayed::Early(number) => put_numbered(printer, b"early", number),
-    }
-}
-
 fn answer(out: &mut [u8], replayed: Replayed) -> usize
     ensures { Written out.old 0 (replayed_line replayed) result out.new }
 {
     let mut printer = Printer::new(out);
-    put_replayed(&mut printer, replayed);
+    match replayed {
+        Replayed::Agrees => printer.put(b"agrees\n"),
+        Replayed::Differs(number) => put_numbered(&mut printer, b"differs", number),
+        Replayed::Early(number) => put_numbered(&mut printer, b"early", number),
+    }
     printer.at
 }
 
@@ -95,7 +89,7 @@ fn replay_job(job: &[u8], capture: &[u8]) -> Result<Replayed, Refusal>
     let mut words = [0; 4096];
     let mut marks = [0; 4096];
     let side = read(job, &mut words, &mut marks)?.side;
-    let cells = side * side * (side * side);
+    let cells = side.pow(4);
     replay_lanes(side, &words[..cells], &marks[..cells], capture)
 }
 

@@ -1,2 +1,3 @@
 pub mod Lengths
 pub mod Steps
+pub mod Writing

@@ -61,11 +61,11 @@ pub fn step_at(runs: [Run; 9], k: usize) -> Option<Move>
 pub fn write_codes(runs: [Run; 9], log: &mut [u8], from: usize)
     ensures { log.new ≡ sets log.old from (codes_of runs) }
 {
-    for at in from..log.len() {
-        let Some(step) = step_at(runs, at - from) else {
-            return;
-        };
-        log[at] = u8::from(step);
+    let mut at = from.min(log.len());
+    for run in runs {
+        let end = at.saturating_add(run.times).min(log.len());
+        log[at..end].fill(u8::from(run.step));
+        at = end;
     }
 }
 

@@ -26,7 +26,7 @@ pub enum Edge {
     Circular,
 }
 
-// How far a shift goes forth, or how far back.
+// How far a shift goes forth, or how far back: one of the two is 0. The functions of a distance promise their answer for any two numbers.
 #[derive(Clone, Copy, Debug, PartialEq, Eq)]
 pub struct Distance {
     pub forth: usize,
@@ -61,11 +61,9 @@ pub fn is_within(side: usize, k: Distance) -> bool
 pub fn check_distance(side: usize, k: i32) -> Result<(), Refusal>
     ensures { Judged (distance_case side k ∷ []) result }
 {
-    if is_within(side, Distance::from(k)) {
-        Ok(())
-    } else {
-        Err(Refusal::Argument)
-    }
+    is_within(side, Distance::from(k))
+        .then_some(())
+        .ok_or(Refusal::Argument)
 }
 
 // k modulo the side, of a k within the side.

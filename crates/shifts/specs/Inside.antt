@@ -1,5 +1,5 @@
 -- What the parts of a shift do to its lanes. A reader of the public contract does not need it.
-use Rattle.std.specs.Prelude.{ℕ, ◌+◌, ◌≤◌, Bool, cond, ◌&&◌, List, get_or, ltb}
+use Rattle.std.specs.Prelude.{ℕ, ◌+◌, Bool, cond, ◌&&◌, List, get_or, ltb}
 use Rattle.array.specs.declared.moves.Way.{Way}
 use Rattle.array.specs.declared.moves.Way.TheVariants.{Right, Down}
 use Rattle.shiftlists.specs.declared.Axis.{Axis}
@@ -36,12 +36,6 @@ shift_on s MeshRow x = mesh_shift s Right x
 shift_on s MeshColumn x = mesh_shift s Down x
 shift_on s GroupRow x = group_shift s Right x
 shift_on s GroupColumn x = group_shift s Down x
-
--- no word goes further than a line is long
-pub record Fits (s : ℕ) (x : Shift) : Type 0 where
-  pub least : 1 ≤ s
-  pub forth : x.forth ≤ s
-  pub around : x.around ≤ s
 
 -- the spot of the next cell
 abbrev pub next_spot : ℕ → Spot → Spot

@@ -3,6 +3,9 @@
 
 ghost use Rattle.std.specs.Prelude.{◌≡◌};
 ghost use Rattle.slots.specs.Cells.{empty as empty_of, alone as alone_of, joined as joined_of};
+ghost use Rattle.slots.specs.Lanes.{records_in};
+
+use array::lent::LentSlots;
 
 // A record: its word, its mark (1, or 0 where there is none) and its aim.
 #[derive(Clone, Copy, Debug, PartialEq, Eq)]
@@ -61,4 +64,15 @@ pub fn joined(c: Cell, x: Rec) -> Cell
         };
     }
     Cell { front, spare: x }
+}
+
+// The record in cell i of three lanes. Behind a lane's end every number is 0.
+pub fn record_at(slots: &LentSlots, i: usize) -> Rec
+    ensures { result ≡ records_in slots.now i }
+{
+    Rec {
+        word: slots.words.get(i).copied().unwrap_or(0),
+        mark: slots.marks.get(i).copied().unwrap_or(0),
+        aim: slots.aims.get(i).copied().unwrap_or(0),
+    }
 }

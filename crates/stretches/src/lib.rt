@@ -10,24 +10,17 @@ ghost use Rattle.stretches.specs.Stretches.{group_case, group_answer, group_word
 use answers::{Moves, Refusal, check_lane, check_side, moves_of};
 use runs::no_runs;
 
-// There are side × side groups; a side above 2^32 − 1 has more than there are numbers.
+// There are side × side groups; where that is no number of 64 bits, there are more than there are numbers.
 fn is_group(side: usize, group: usize) -> bool
     ensures { result ≡ ltb group (groups side) }
 {
-    if 4294967295 < side {
-        return true;
-    }
-    group < side * side
+    side.checked_mul(side).is_none_or(|groups| group < groups)
 }
 
 fn check_group(side: usize, group: usize) -> Result<(), Refusal>
     ensures { Judged (group_case side group ∷ []) result }
 {
-    if is_group(side, group) {
-        Ok(())
-    } else {
-        Err(Refusal::Argument)
-    }
+    is_group(side, group).then_some(()).ok_or(Refusal::Argument)
 }
 
 fn judge_group(side: usize, group: usize, length: usize) -> Result<Moves, Refusal>

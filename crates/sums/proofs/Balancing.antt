@@ -21,10 +21,6 @@ module _ (l m k : List ℕ) (e : length l ≡ length m) where
   long : length (combined_words plus l m) ≡ length l
   long = ap length (made plus l m e) ∙ length-entries _ 0 (length l)
 
-  -- the lane to take off is of another length
-  pub only_more : (length l ≡ length k → ⊥) → combined_words plus l m ≡ combined_words minus (combined_words plus l m) k
-  only_more d = sym (stays minus (combined_words plus l m) k (λ q. d (sym long ∙ q)))
-
   pub balanced_both : length l ≡ length k → entries (balanced l m k) 0 (length l) ≡ combined_words minus (combined_words plus l m) k
   balanced_both f =
       entries_cong (length l) (λ i h. ap (λ x. minus x (get_or k i 0)) (sym (ap (λ a. get_or a i 0) (made plus l m e) ∙ entry_at _ (length l) i 0 h)))

@@ -13,8 +13,8 @@ fn combine<F: Fn(u32, u32) -> u32>(to: &mut [u32], from: &[u32], step: F)
     if to.len() != from.len() {
         return;
     }
-    for i in 0..to.len() {
-        to[i] = step(to[i], from[i]);
+    for (i, own) in to.iter_mut().enumerate() {
+        *own = step(*own, from[i]);
     }
 }
 
@@ -32,6 +32,13 @@ pub fn subtract(to: &mut [u32], from: &[u32])
     combine(to, from, |own, x| own.wrapping_sub(x));
 }
 
+// The other lane's words in place of its own, where both are as long.
+pub fn take(to: &mut [u32], from: &[u32])
+    ensures { to.new ≡ combined_words (λ own x. x) to.old from.now }
+{
+    combine(to, from, |_, x| x);
+}
+
 // One lane is added and another taken off, in one pass where both are as long; else what add and subtract would leave.
 pub fn balance(to: &mut [u32], more: &[u32], less: &[u32])
     ensures { to.new ≡ combined_words minus (combined_words plus to.old more.now) less.now }
@@ -45,7 +52,7 @@ pub fn balance(to: &mut [u32], more: &[u32], less: &[u32])
         add(to, more);
         return;
     }
-    for i in 0..n {
-        to[i] = to[i].wrapping_add(more[i]).wrapping_sub(less[i]);
+    for (i, own) in to.iter_mut().enumerate() {
+        *own = own.wrapping_add(more[i]).wrapping_sub(less[i]);
     }
 }

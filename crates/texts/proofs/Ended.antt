@@ -1,16 +1,13 @@
 -- The first line of a text, and the lines of what follows.
-use mathlib.Core.Path.{◌≡◌, refl, ◌∙◌}
+use mathlib.Core.Path.{◌≡◌, refl}
 use mathlib.Core.List.{List, [], ◌∷◌}
 use mathlib.Core.Bool.{Bool, true, false}
-use Prim.Native.Nat.{ℕ, suc, ◌+◌, ◌-◌, ◌≤◌, ◌<◌}
+use Prim.Native.Nat.{ℕ, suc, ◌+◌, ◌<◌}
 use native.Mathlib.Omega.{arith}
-use native.Mathlib.Numerals.{add-one}
-use lib.ListN.{length, take, drop, length-drop}
-use lib.Seq.{drop-drop}
+use lib.ListN.{length, take, drop}
 use lib.Dec.{eqb}
 use Rattle.texts.specs.Lines.{bytes_before, Parted, ended, unended, with_byte, lines_of}
 use Rattle.texts.specs.Bytes.{lf}
-use Rattle.texts.proofs.Reading.{rest}
 
 -- a text that has an LF: its first line, and the lines of what follows
 abbrev Ended : List ℕ → Type 0
@@ -46,27 +43,3 @@ unended_cons b (x ∷ s) false e ih h p =
 pub lines_unended : (s : List ℕ) → Unended s
 lines_unended [] h p = absurd (omega arith)
 lines_unended (b ∷ s) h p = unended_cons b s (eqb b lf) refl (lines_unended s) h p
-
--- What is left of a text from `at` on, as the code has it (`&text[at..]`), and where its first line ends.
-abbrev pub left_of : List ℕ → ℕ → List ℕ
-left_of text at = take (length text - at) (drop at text)
-
-module _ (text : List ℕ) (at : ℕ) (h : at < length text) (end : ℕ) (e : end ≡ bytes_before lf (left_of text at)) where
-  at-end : end ≡ bytes_before lf (drop at text)
-  at-end = e ∙ rw rest
-
-  long : length (left_of text at) ≡ length (drop at text)
-  long = rw rest
-
-  pub left_unended : end ≡ length (left_of text at) → lines_of (drop at text) ≡ unended ∷ []
-  left_unended u = lines_unended (drop at text) (omega (arith, at-end, long)) (rw length-drop (omega arith))
-
-  module _ (b : end ≤ length (left_of text at)) (u : end ≡ length (left_of text at) → ⊥) where
-    has : bytes_before lf (drop at text) < length (drop at text)
-    has = omega (arith, at-end, long)
-
-    pub left_ended : lines_of (drop at text) ≡ ended (take end (left_of text at)) ∷ lines_of (drop (at + (end + 1)) text)
-    left_ended = lines_ended (drop at text) has ∙ rw (← at-end, rest) (simp (drop-drop, add-one))
-
-    pub left-within : at + (end + 1) ≤ length text
-    left-within = omega (arith, at-end, length-drop at text, has)

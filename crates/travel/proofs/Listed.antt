@@ -5,12 +5,10 @@ use mathlib.Core.Bool.{cond}
 use mathlib.Core.List.{List, [], ◌∷◌, ◌++◌}
 use native.Mathlib.Nat.{sub-zero, suc-sub-suc}
 use native.Mathlib.Decide.{dec_lt}
-use native.Mathlib.Numerals.{add-one}
 use native.Mathlib.Omega.{arith}
 use borrow.Author.Tests.{lt-ltb, le-ltb}
 use lib.Dec.{ltb}
-use lib.ListN.{length, drop, take, get_or, replicate, drop_of_length-le, length-append, length-replicate}
-use lib.Seq.{drop-cons}
+use lib.ListN.{length, take, get_or, replicate, length-append, length-replicate}
 use Rattle.array.specs.declared.moves.Move.{Move}
 use Rattle.array.specs.declared.moves.Move.TheVariants.{Swap, Electronic}
 use Rattle.runs.specs.declared.Run.{Run}
@@ -34,17 +32,6 @@ turn_here r rs swaps k h = rw (lt-ltb k r.times h)
 
 pub turn_past : (r : Run) (rs : List Run) (swaps k : ℕ) → r.times ≤ k → turn_in (r ∷ rs) swaps k ≡ turn_in rs (swaps + swaps_in r.step r.times) (k - r.times)
 turn_past r rs swaps k h = rw (le-ltb k r.times h)
-
--- from run q on
-module _ (rs : List Run) (q swaps k : ℕ) (d : Run) (h : q < length rs) where
-  pub turn_found : k < (get_or rs q d).times → turn_in (drop q rs) swaps k ≡ in_run (get_or rs q d) swaps k
-  turn_found l = rw (drop-cons rs q d h) (turn_here (get_or rs q d) (drop (suc q) rs) swaps k l)
-
-  pub turn_next : (get_or rs q d).times ≤ k → turn_in (drop q rs) swaps k ≡ turn_in (drop (q + 1) rs) (swaps + swaps_in (get_or rs q d).step (get_or rs q d).times) (k - (get_or rs q d).times)
-  turn_next l = rw (drop-cons rs q d h, add-one) (turn_past (get_or rs q d) (drop (suc q) rs) swaps k l)
-
-pub turn_none : (rs : List Run) (q swaps k : ℕ) → length rs ≤ q → turn_in (drop q rs) swaps k ≡ record { step = Swap; remaining = 0; swaps = swaps }
-turn_none rs q swaps k h = rw (drop_of_length-le rs h)
 
 pub few_swaps : (m : Move) (n : ℕ) → swaps_in m n ≤ n
 few_swaps Swap n = omega arith

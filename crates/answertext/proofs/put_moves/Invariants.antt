@@ -1,4 +1,5 @@
 -- `answertext::put_moves`: line after line of the log.
+use Rattle.std.proofs.Common.{length}
 use Rattle.printing.specs.Printed.{rows}
 use Rattle.printing.specs.Printers.{Put}
 use Rattle.answertext.specs.Log.{line_of}
@@ -6,4 +7,4 @@ use Rattle.answertext.specs.Answers.{move_row}
 use Rattle.answertext.proofs.put_moves.Given as goal
 
 abbrev pub invariant-loop-i : goal.invariant-loop-i
-invariant-loop-i l = Put (rows (move_row (line_of l.codes l.moved)) l.i) l.initial.printer l.printer
+invariant-loop-i l = Put (rows (move_row (line_of l.codes l.moved)) (length l.yielded)) l.initial.printer l.printer

@@ -25,8 +25,8 @@ slice_bounds-spare-end-3 c = part_length _ _ (lane_room c.args.side c.requires.s
 pub slice_bounds-aims-end : goal.slice_bounds-aims-end
 slice_bounds-aims-end c = lane_room c.args.side c.requires.side_value c.requires.lanes_long.0
 
-pub slice_bounds-settle-end : goal.slice_bounds-settle-end
-slice_bounds-settle-end c = part_length _ _ (lane_room c.args.side c.requires.side_value c.requires.lanes_long.0)
+pub slice_bounds-front-end : goal.slice_bounds-front-end
+slice_bounds-front-end c = part_length _ _ (lane_room c.args.side c.requires.side_value c.requires.lanes_long.0)
 
 pub settle-requires : goal.settle-requires
 settle-requires c =
@@ -43,6 +43,4 @@ settle-requires c =
         aims2 = length-take-le _ _ r ∙ p.lanes_long.0;
       };
       marked = p.good_marks;
-      codes_room = p.logs_long.0;
-      moved_room = p.logs_long.1;
     }

@@ -2,13 +2,12 @@
 use native.Mathlib.Omega.{arith}
 use Rattle.array.proofs.Board.{side_known}
 use Rattle.jobs.proofs.Answered.{solve_filled}
-use borrow.Author.Rules.{rules}
 use Rattle.jobs.proofs.solve.Goals as goal
 
 pub settle_lanes-requires : goal.settle_lanes-requires
 settle_lanes-requires c =
     let b = c.requires in
-    record { side_value = b.side; lanes_long = (b.words_long, b.marks_long); good_marks = b.good; logs_long = search rules }
+    record { side_value = b.side; lanes_long = (b.words_long, b.marks_long); good_marks = b.good }
 
 pub print-requires : goal.print-requires
 print-requires c =
@@ -17,7 +16,7 @@ print-requires c =
     record {
       side_value = b.side;
       marked_bound = omega (arith, k, b);
-      lent_long = (search rules, search rules, omega (arith, b, c.settle_lanes.auto.words));
+      words_long = omega (arith, b, c.settle_lanes.auto.words);
     }
 
 pub returns : goal.returns

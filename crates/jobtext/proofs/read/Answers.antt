@@ -2,7 +2,7 @@
 use Rattle.std.proofs.Common.{◌∙◌, sym}
 use Rattle.std.proofs.lemmas.Option.{MatchOption-at_some, MatchOption-at_none}
 use Rattle.std.proofs.lemmas.Result.{err_from_is_err_and}
-use Rattle.jobtext.proofs.Entries.{none_refused}
+use Rattle.answers.proofs.Judging.{none_refused}
 use Rattle.jobtext.proofs.Whole.{side_refused, side_passed, side_small, read_too_long, read_unended, read_no_side, read_bad_side, read_ready, read_refused}
 use Rattle.jobtext.proofs.read.Goals as goal
 

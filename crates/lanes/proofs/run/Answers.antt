@@ -6,4 +6,4 @@ use Rattle.lanes.proofs.run.Goals as goal
 pub returns : goal.returns
 returns c =
     ran_moved c.args.side c.args.way c.args.joining c.args.e c.args.n _ _ (passed c.is_run.ensures c.if-not-is_run.false)
-    c.run_board.auto.words c.run_board.ensures
+    c.run.auto.words c.run.ensures

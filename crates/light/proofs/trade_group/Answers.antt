@@ -4,4 +4,4 @@ use Rattle.light.proofs.trade_group.Goals as goal
 
 pub trade_places-requires-clause-listed : goal.trade_places-requires-clause-listed
 trade_places-requires-clause-listed c =
-    listed_links c.args.side c.args.g _ c.if-side-eq8.true c.requires.in_range c.links_of-links.ensures
+    listed_links c.args.side c.args.g _ c.if-side-eq8.true c.requires.in_range c.links_of.ensures

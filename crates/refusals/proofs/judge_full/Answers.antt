@@ -1,6 +1,6 @@
--- `refusals::judge_full` meets its contract: where the aims are judged, the lanes are a board's and the marks good.
-use Rattle.refusals.proofs.Verdicting.{good_frame}
+-- `refusals::judge_full` meets its contract: where the marks are judged, the lanes are a board's.
+use Rattle.refusals.proofs.Verdicting.{one_board}
 use Rattle.refusals.proofs.judge_full.Goals as goal
 
-pub check_aims-requires : goal.check_aims-requires
-check_aims-requires c = good_frame c.args.frame c.check_lanes.ensures c.in_ok-check_lanes.was c.check_marks.ensures c.in_ok-check_marks.was
+pub check_marked-requires : goal.check_marked-requires
+check_marked-requires c = one_board c.args.frame c.check_lanes.ensures c.in_ok-check_lanes.was

@@ -1,14 +1,13 @@
--- `runs::write_codes` meets its contract: the codes are stored one after the other.
-use mathlib.Core.Path.{sym, ◌∙◌}
+-- `runs::write_codes` meets its contract: the codes of one run after the other are written (Writing).
 use native.Mathlib.Omega.{arith}
-use Rattle.laws.proofs.Stores.{storing_next, storing_end}
-use Rattle.runs.proofs.Steps.{code_found}
+use borrow.Author.Rules.{rules}
+use Rattle.array.specs.declared.moves.Move.TheVariants.{Swap}
+use Rattle.runs.proofs.Writing.{writing_start, writing_next}
 use Rattle.runs.proofs.write_codes.Goals as goal
 
-pub loop-at-preserved : goal.loop-at-preserved
-loop-at-preserved c =
-    let f = code_found c.args.runs _ _ (sym c.step_at.ensures ∙ c.in-Some.is) in
-    storing_next _ _ _ _ 0 f.0 (f.1 ∙ sym c.from.ensures) c.loop-at.invariant
+pub loop-run-init : goal.loop-run-init
+loop-run-init c = writing_start c.args.runs c.args.log.now c.min-at.ensures
 
-pub returns : goal.returns
-returns c = storing_end _ _ _ (omega (arith, c.loop-at-test.false)) c.loop-at.invariant
+pub loop-run-preserved : goal.loop-run-preserved
+loop-run-preserved c =
+    writing_next (record { step = Swap; times = 0 }) (search rules) (omega arith) (c.fill.ensures.after (λ y e. e)) c.from.ensures c.loop-run.invariant

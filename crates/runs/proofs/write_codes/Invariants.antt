@@ -1,7 +1,6 @@
--- `runs::write_codes` meets its contract: the codes are stored one after the other.
-use Rattle.laws.proofs.Stores.{Storing}
-use Rattle.runs.specs.Runs.{codes}
+-- `runs::write_codes` meets its contract: the codes of one run after the other are written (Writing).
+use Rattle.runs.proofs.Writing.{Writing}
 use Rattle.runs.proofs.write_codes.Given as goal
 
-abbrev pub invariant-loop-at : goal.invariant-loop-at
-invariant-loop-at l = Storing l.initial.log (codes l.runs) l.from l.at l.log
+abbrev pub invariant-loop-run : goal.invariant-loop-run
+invariant-loop-run l = Writing l.fn.runs l.initial.log l.from l.run-index l.at l.log

@@ -12,4 +12,4 @@ returns c =
     let near = within_is _ _ _ _ a.k k c.from.ensures c.is_within.ensures ∙ c.if-not-is_within.false in
     let runs = c.shift_runs-runs.ensures ∙ ap (shift_runs a.side a.axis a.edge) k in
     shift_done a.side a.axis a.edge a.k _ _ (passed c.is_board.ensures c.if-not-is_board.false) near
-    (rw (forth_times a.side a.axis a.edge a.k _ _ near runs, home_times a.side a.axis a.edge a.k _ _ near runs) at c.shift_all.ensures)
+    (rw (forth_times a.side a.axis a.edge a.k _ _ near runs, home_times a.side a.axis a.edge a.k _ _ near runs) at c.along.ensures)

@@ -1,10 +1,6 @@
--- `array::cells::is_cells` meets its contract: past side 65,535 no length is the number of cells.
-use Rattle.array.specs.Cells.{cells}
-use mathlib.Core.Path.{sym}
-use native.Mathlib.Omega.{arith}
-use borrow.Author.Tests.{ne_eqb}
-use Rattle.laws.proofs.Numbers.{fourth_grows}
+-- `array::cells::is_cells` meets its contract: a side whose number of cells does not fit has no length that is it.
+use Rattle.array.proofs.Fourth.{told_cells}
 use Rattle.array.proofs.cells.is_cells.Goals as goal
 
-pub returns-then-side-gt65535 : goal.returns-then-side-gt65535
-returns-then-side-gt65535 c = sym (ne_eqb c.args.n (cells c.args.side) (λ e. omega (arith, fourth_grows {a = 65536} c.if-side-gt65535.true, e)))
+pub returns : goal.returns
+returns c = told_cells c.args.side c.args.n _ c.checked_pow.result c.ranges.n.fits c.checked_pow.ensures c.eq.ensures

@@ -4,4 +4,4 @@ use Rattle.mesh.proofs.Slots.{Taking}
 use Rattle.mesh.proofs.cells.take_slots.Given as goal
 
 abbrev pub invariant-loop-p : goal.invariant-loop-p
-invariant-loop-p l = Taking l.by.rule l.start l.p (records_in l.slots) l.line
+invariant-loop-p l = Taking l.by.rule l.start l.p (records_in l.slots) l.record-items

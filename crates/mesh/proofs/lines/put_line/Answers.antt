@@ -1,26 +1,24 @@
--- `mesh::lines::put_line` meets its contract: slot after slot is put down.
-use mathlib.Core.Path.{refl}
+-- `mesh::lines::put_line` meets its contract: cell after cell its records are put down.
 use native.Mathlib.Omega.{arith}
 use Rattle.mesh.proofs.Ruling.{known}
-use Rattle.mesh.proofs.Laying.{settling_start, settling_none, settling_step, settling_few, arrives_some, no_cells, went_one}
+use Rattle.mesh.proofs.Laying.{settling_start, settling_step, settling_few, put_few, no_cells}
 use Rattle.mesh.proofs.lines.put_line.Goals as goal
-use Rattle.mesh.proofs.lines.put_line.Goals.{then-x-ne0, else-x-ne0}
 
-pub loop-k-init : goal.loop-k-init
-loop-k-init c = settling_start _ _ c.requires.long refl (no_cells 8 c.empty-none.ensures)
+pub loop-p-init : goal.loop-p-init
+loop-p-init c = settling_start _ _ (no_cells 8 c.empty-none.ensures)
 
-pub overflow_add-counts : goal.overflow_add-counts
-overflow_add-counts c =
-    let l = c.landing-arrival.ensures in
-    omega (arith, settling_few (known c.args.by).most c.loop-k.invariant _ l.few, c.requires.room _ l.few, went_one l)
+pub put_down-requires-clause-roomy : goal.put_down-requires-clause-roomy
+put_down-requires-clause-roomy c = record {
+  room = λ d h. omega (arith, settling_few (known c.args.by).most c.loop-p-test.true c.loop-p.invariant d h, c.requires.room d h);
+}
 
-pub loop-k-preserved : goal.loop-k-preserved
-loop-k-preserved c =
-    let i = c.loop-k.invariant in
-    let h = c.loop-k-test.true in
-    let e = c.slot-x.ensures in
-    elim c.if-x-ne0.branch [
-      | then-x-ne0 w ↦ rw (w.counts-is, w.line-is)
-          (settling_step h (known c.args.by).most e (arrives_some w.if-x-ne0.true w.digit.ensures.digit w.landing-arrival.ensures) refl w.joined.ensures i)
-      | else-x-ne0 w ↦ rw (w.counts-is, w.line-is) (settling_none h e w.if-x-ne0.false i)
-    ]
+pub put_down-requires-in-loop-p-clause-roomy : goal.put_down-requires-in-loop-p-clause-roomy
+put_down-requires-in-loop-p-clause-roomy c = record {
+  room = λ d h.
+      let few = settling_few (known c.args.by).most c.loop-p-test.true c.loop-p.invariant d h in
+      omega (arith, few, c.requires.room d h, put_few c.put_down.ensures d h);
+}
+
+pub loop-p-preserved : goal.loop-p-preserved
+loop-p-preserved c =
+    settling_step c.loop-p-test.true c.put_down.ensures c.put_down-in-loop-p.ensures c.loop-p.invariant

@@ -1,7 +1,7 @@
--- `mesh::lines::put_line` meets its contract: slot after slot is put down.
+-- `mesh::lines::put_line` meets its contract: cell after cell its records are put down.
 use Rattle.mesh.specs.Inside.{cells_of}
 use Rattle.mesh.proofs.Laying.{Settling}
 use Rattle.mesh.proofs.lines.put_line.Given as goal
 
-abbrev pub invariant-loop-k : goal.invariant-loop-k
-invariant-loop-k l = Settling l.by.rule (cells_of l.fronts l.spares) l.k l.initial.counts l.counts l.line
+abbrev pub invariant-loop-p : goal.invariant-loop-p
+invariant-loop-p l = Settling l.by.rule (cells_of l.fronts l.spares) l.p l.initial.counts l.counts l.line

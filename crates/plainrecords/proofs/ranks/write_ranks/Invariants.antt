@@ -6,4 +6,4 @@ use Rattle.plainrecords.proofs.Counted.{Counted}
 use Rattle.plainrecords.proofs.ranks.write_ranks.Given as goal
 
 abbrev pub invariant-loop-i : goal.invariant-loop-i
-invariant-loop-i l = Counted l.marks l.count l.i × Filled (aim_in l.marks) 0 (length l.marks) l.aims l.i
+invariant-loop-i l = Counted l.marks l.rank l.i × Filled (aim_in l.marks) 0 (length l.marks) l.aims l.i

@@ -2,5 +2,5 @@
 use Rattle.refusals.proofs.Judged.{Cutting}
 use Rattle.refusals.proofs.judging.first_runs.Given as goal
 
-abbrev pub invariant-loop-q : goal.invariant-loop-q
-invariant-loop-q l = Cutting l.cut l.runs l.firsts l.remaining l.q
+abbrev pub invariant-loop-run : goal.invariant-loop-run
+invariant-loop-run l = Cutting l.cut l.fn.runs l.run-items l.remaining l.run-index

@@ -1,5 +1,0 @@
-use Rattle.plainwords.specs.Inside.{BoardShiftedBy}
-use Rattle.plainwords.proofs.lines.shift_each.Given as goal
-
-abbrev pub invariant-loop-block : goal.invariant-loop-block
-invariant-loop-block l = BoardShiftedBy l.lines l.block l.initial.words l.words

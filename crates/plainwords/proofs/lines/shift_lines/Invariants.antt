@@ -1,6 +1,0 @@
-use Rattle.std.proofs.Common.{◌*◌, ◌/◌}
-use Rattle.plainwords.specs.Inside.{ShiftedBy}
-use Rattle.plainwords.proofs.lines.shift_lines.Given as goal
-
-abbrev pub invariant-loop-o : goal.invariant-loop-o
-invariant-loop-o l = ShiftedBy l.lines l.start (l.lines.stride / 8 * 8) l.o l.initial.words l.words

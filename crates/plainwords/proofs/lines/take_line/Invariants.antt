@@ -1,6 +1,0 @@
-use Rattle.std.proofs.Common.{ℕ, ◌+◌, ◌*◌, get_or}
-use Rattle.laws.proofs.Rewriting.{Rewriting}
-use Rattle.plainwords.proofs.lines.take_line.Given as goal
-
-abbrev pub invariant-loop-p : goal.invariant-loop-p
-invariant-loop-p l = Rewriting (λ (k : ℕ). get_or l.words (l.first + k * l.lines.stride) 0) 0 l.initial.line l.line l.p
