@@ -1,9 +1,10 @@
 -- Enough moves: where no record has farther to go than k cells, the first k moves of a run do what more would, and of a run that goes late only the last k do anything.
-use Prim.Native.Nat.{ℕ, zero, suc, ◌+◌, ◌-◌, ◌*◌, ◌≤◌, ◌<◌, max}
+use Prim.Native.Nat.{ℕ, zero, suc, ◌+◌, ◌-◌, ◌*◌, ◌≤◌, ◌<◌, min, max}
 use mathlib.Core.Path.{◌≡◌, refl, sym, ap, ap₂, ◌∙◌, subst}
 use mathlib.Core.Logic.{◌⊎◌, inl, inr, ⊎_elim}
 use mathlib.Core.Bool.{Bool, true, false, cond, not, ◌&&◌}
 use native.Mathlib.Omega.{arith}
+use borrow.Author.Tests.{eq-eqb}
 use lib.Dec.{eqb}
 use Rattle.laws.proofs.Deciding.{apart}
 use Rattle.array.specs.declared.moves.Way.{Way}
@@ -125,14 +126,39 @@ module _ (l : Leg) where
   abbrev none : Leg
   none = up_to l 0
 
+  none_ends : (q h : ℕ) → reach (line_rule_of none) h q (line_rule_of none).made ≡ q
+  unfolding reach
+  none_ends q h = let e : min 0 l.times ≡ 0 = omega arith in ap (reach (line_rule_of none) h q) e
+
+  none-leaves : (q : ℕ) (x : Rec) → leaves (line_rule_of none) q x ≡ false
+  unfolding leaves
+  none-leaves q x = rw (eq-eqb (end_of (line_rule_of none) q x) q (none_ends q (head_of (line_rule_of none) x))) (either (eqb x.mark 0) false)
+
+  none-all : (S : ℕ → Rec) (n : ℕ) → none_leaves (line_rule_of none) S n ≡ true
+  unfolding none_leaves
+  none-all S zero = refl
+  none-all S (suc n) = rw (none-all S n, none-leaves n (S n))
+
+  none-ran : (U : ℕ → Cell) (p : ℕ) → ran_line (line_rule_of none) U p ≡ U p
+  none-ran U p = rw (none-all (λ q. (U q).front) l.side, none-all (λ q. (U q).spare) l.side)
+
 -- a record that has at most d cells to go is there after d moves, and going late it has not set off while d are left
 first-gone : (l : Leg) (k m : ℕ) → l.late ≡ false → k ≤ m → (n : ℕ) → n ≤ k → gone_of (line_rule_of (up_to l k)) n ≡ gone_of (line_rule_of (up_to l m)) n
 first-gone l k m e h n u = rw e (omega arith)
+
+last_gone : (l : Leg) (k d : ℕ) → l.late ≡ true → k ≤ l.times - d → (n : ℕ) → n ≤ d → gone_of (line_rule_of (up_to l k)) n ≡ gone_of (line_rule_of (up_to l 0)) n
+last_gone l k d e h n u = rw e (omega arith)
 
 -- a run of as many moves as the greatest distance on a line does to it what a longer one does
 pub line_enough : (l : Leg) (U : ℕ → Cell) (k m : ℕ) → l.late ≡ false → farthest_on l U ≤ k → k ≤ m → (p : ℕ) → p < l.side
     → ran_line (line_rule_of (up_to l k)) U p ≡ ran_line (line_rule_of (up_to l m)) U p
 line_enough l U k m e f h p i = line_same l k m k (first-gone l k m e h) U (λ q u. let z = far_on l U q u in omega (arith, z, f)) p i
+
+-- of a run that goes late only as many last moves do anything to it
+pub line-idle : (l : Leg) (U : ℕ → Cell) (k d : ℕ) → l.late ≡ true → farthest_on l U ≤ d → k ≤ l.times - d → (p : ℕ) → p < l.side → ran_line (line_rule_of (up_to l k)) U p ≡ U p
+line-idle l U k d e f h p i =
+    line_same l k 0 d (last_gone l k d e h) U (λ q u. let z = far_on l U q u in omega (arith, z, f)) p i
+    ∙ none-ran l U p
 
 -- a board that has a cell has a side
 some_side : (s i : ℕ) → i < cells s → 0 < s
@@ -210,3 +236,11 @@ unfolding ran_on
 enough l T k m e f h i u =
     let z = line_most l i u T in
     line_enough l (λ q. T (line_cell (line_rule_of l) i q)) k m e (omega (arith, z, f)) h (spot_of (line_rule_of l) i) (spot_in l i u)
+
+-- of a run that goes late only as many last moves do anything
+pub idle : (l : Leg) (T : ℕ → Cell) (k d : ℕ) → l.late ≡ true → farthest l T ≤ d → k ≤ l.times - d → (i : ℕ) → i < cells l.side → ran_on (line_rule_of (up_to l k)) T i ≡ T i
+unfolding ran_on
+idle l T k d e f h i u =
+    let z = line_most l i u T in
+    line-idle l (λ q. T (line_cell (line_rule_of l) i q)) k d e (omega (arith, z, f)) h (spot_of (line_rule_of l) i) (spot_in l i u)
+    ∙ ap T (own_cell l i u)
