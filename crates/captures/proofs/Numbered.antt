@@ -2,17 +2,17 @@
 use Rattle.std.specs.Prelude.{Result, Ok, Err}
 use Prim.Native.Nat.{ℕ}
 use mathlib.Core.Path.{◌≡◌, refl, sym, ap, ◌∙◌}
-use mathlib.Core.Bool.{Bool, true, false, cond}
+use mathlib.Core.Bool.{Bool, true, false}
 use mathlib.Core.List.{List}
 use native.Mathlib.Omega.{arith}
-use lib.Dec.{eqb}
 use lib.ListN.{length}
 use Rattle.answers.specs.declared.Answer.{Answer}
 use Rattle.answers.specs.declared.Refusal.{Refusal}
-use Rattle.answers.specs.declared.Refusal.TheVariants.{Side, Lane, Log, Argument, Mark, Aim, Cut, Job, Capture}
+use Rattle.answers.specs.declared.Refusal.TheVariants.{Side, Lane, Mark, Aim}
 use Rattle.answers.specs.Answers.{Case}
 use Rattle.answers.specs.Answers.{number_of, place_of, accepted, refused, refusing, verdict, side_case, lane_case}
 use Rattle.answers.proofs.Judging.{refuses}
+use Rattle.answers.proofs.Named.{same_refusal}
 use Rattle.lists.specs.declared.Trip.TheVariants.{Concentrate}
 use Rattle.marks.specs.Marks.{marks_case}
 use Rattle.refusals.specs.Cases.{aims_case}
@@ -25,31 +25,10 @@ abbrev pub judged : Result Replayed Refusal → Answer
 judged (Ok found) = accepted 0 0
 judged (Err refusal) = refused (number_of refusal) (place_of refusal)
 
--- the refusal that a number and a place name
-abbrev refusal_in : Answer → Refusal
-refusal_in a =
-    cond (eqb a.number 1) Side
-    (cond (eqb a.number 2) Lane
-    (cond (eqb a.number 3) Log
-    (cond (eqb a.number 4) Argument
-    (cond (eqb a.number 5) (Mark a.place)
-    (cond (eqb a.number 6) (Aim a.place) (cond (eqb a.number 7) Cut (cond (eqb a.number 8) (Job a.place) (Capture a.place))))))))
-
-named : (x : Refusal) → refusal_in (refused (number_of x) (place_of x)) ≡ x
-named Side = refl
-named Lane = refl
-named Log = refl
-named Argument = refl
-named (Mark i) = refl
-named (Aim i) = refl
-named Cut = refl
-named (Job l) = refl
-named (Capture l) = refl
-
--- so no two refusals have the same number and place
+-- no two refusals have the same number and place, and a refusal is nothing that is found
 pub refusal_is : (x : Refusal) (r : Result Replayed Refusal) → refused (number_of x) (place_of x) ≡ judged r → Err x ≡ r
 refusal_is x (Ok found) e = absurd (refuses x (ap (λ (a : Answer). a.number) e))
-refusal_is x (Err y) e = ap Err (sym (named x) ∙ ap refusal_in e ∙ named y)
+refusal_is x (Err y) e = ap Err (same_refusal x y e)
 
 -- a refusal is not what a replay finds
 abbrev is_found : Result Replayed Refusal → ℕ
