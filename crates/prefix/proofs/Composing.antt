@@ -1,6 +1,6 @@
 -- How the parts of the code make up the nine steps.
 use Prim.Native.Nat.{ℕ, ◌-◌, ◌^◌, ◌<◌}
-use mathlib.Core.Path.{◌≡◌, refl, ◌∙◌}
+use mathlib.Core.Path.{◌≡◌, refl, sym, ◌∙◌}
 use mathlib.Core.Bool.{Bool, true, false, cond, ◌&&◌}
 use mathlib.Core.List.{List}
 use native.Mathlib.Omega.{arith}
@@ -9,11 +9,12 @@ use lib.Dec.{leb}
 use lib.ListN.{length, get_or}
 use Rattle.array.specs.declared.moves.Way.{Way}
 use Rattle.array.specs.declared.moves.Way.TheVariants.{Right, Left, Up, Down}
-use Rattle.array.specs.Cells.{is_board}
+use Rattle.array.specs.Cells.{is_board, cells}
 use Rattle.light.specs.Lane.{swapped_lane}
 use Rattle.lanes.specs.declared.Joining.TheVariants.{Add, Copy}
 use Rattle.lanes.specs.Machine.{State}
 use Rattle.sums.specs.Sums.{plus, minus, combined_words}
+use Rattle.sums.proofs.Taking.{taken}
 use Rattle.lanes.specs.Runs.{ran_words}
 use Rattle.lanes.specs.Inside.{Lane, Moves, swapped_state}
 use Rattle.lanes.proofs.Held.{board_known, sizes, lane_load, lane-words, ran-lane, swapped-lane, combined_lane}
@@ -29,20 +30,21 @@ sums s w e h = ran-lane s w Add 0 (s - 1) (omega arith) (omega arith) e h
 copies : (s : ℕ) (w : Way) {l l' : List ℕ} {σ : State ℕ} → l' ≡ ran_words s w Copy (s - 1) (s - 1) l → Lane s l σ → Lane s l' (copied s w σ)
 copies s w e h = ran-lane s w Copy (s - 1) (s - 1) (omega arith) (omega arith) e h
 
--- a lane that took another's words
-taken : (s : ℕ) {l l' : List ℕ} {σ : State ℕ} → l' ≡ l → Lane s l σ → Lane s l' σ
-taken s e h = rw e h
+-- a lane of a board that took another's words
+took : (s : ℕ) (l : List ℕ) {m l' : List ℕ} {σ : State ℕ} → l' ≡ combined_words (λ own x. x) l m → length l ≡ cells s → Lane s m σ → Lane s l' σ
+took s l {m} e n h = rw (e ∙ taken l m (n ∙ sym h.board.whole)) h
 
-pub rows_columns : (s : ℕ) {r r' c₁ c' : List ℕ} → r' ≡ ran_words s Right Add 0 (s - 1) r → c₁ ≡ r' → c' ≡ ran_words s Down Add 0 (s - 1) c₁
-    → RowsAndColumns s r r' c'
-rows_columns s x e y = record { rows = λ R hr. sums s Right x hr; columns = λ R hr. sums s Down y (taken s e (sums s Right x hr)) }
+pub rows_columns : (s : ℕ) (c : List ℕ) {r r' c₁ c' : List ℕ} → length c ≡ length r → r' ≡ ran_words s Right Add 0 (s - 1) r → c₁ ≡ combined_words (λ own x. x) c r'
+    → c' ≡ ran_words s Down Add 0 (s - 1) c₁ → RowsAndColumns s r r' c'
+rows_columns s c n x e y = record { rows = λ R hr. sums s Right x hr; columns = λ R hr. sums s Down y (took s c e (n ∙ hr.board.whole) (sums s Right x hr)) }
 
-pub group_sums : (s : ℕ) {c y₁ y₂ y' z₁ z' : List ℕ} → y₁ ≡ c → y₂ ≡ swapped_lane s y₁ → y' ≡ ran_words s Right Add 0 (s - 1) y₂
-    → z₁ ≡ y' → z' ≡ ran_words s Down Add 0 (s - 1) z₁ → GroupSums s c y' z'
-group_sums s {c} {y' = y'} ty sw ry tz rz = record { rows = along; columns = λ C hc. sums s Down rz (taken s tz (along C hc)) }
+pub group_sums : (s : ℕ) (y z : List ℕ) {c y₁ y₂ y' z₁ z' : List ℕ} → length y ≡ length c → length z ≡ length c → y₁ ≡ combined_words (λ own x. x) y c
+    → y₂ ≡ swapped_lane s y₁ → y' ≡ ran_words s Right Add 0 (s - 1) y₂ → z₁ ≡ combined_words (λ own x. x) z y' → z' ≡ ran_words s Down Add 0 (s - 1) z₁
+    → GroupSums s c y' z'
+group_sums s y z {c} {y' = y'} ny nz ty sw ry tz rz = record { rows = along; columns = λ C hc. sums s Down rz (took s z tz (nz ∙ hc.board.whole) (along C hc)) }
   where
     along : (C : State ℕ) → Lane s c C → Lane s y' (summed s Right (swapped_state C))
-    along C hc = sums s Right ry (swapped-lane s sw (taken s ty hc))
+    along C hc = sums s Right ry (swapped-lane s sw (took s y ty (ny ∙ hc.board.whole) hc))
 
 -- one lane added and another taken off
 balanced : (s : ℕ) {l m k l' : List ℕ} {σ τ υ : State ℕ} → l' ≡ combined_words minus (combined_words plus l m) k → Lane s l σ → Lane s m τ → Lane s k υ

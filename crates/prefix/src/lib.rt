@@ -11,7 +11,7 @@ use array::cells::is_board;
 use array::moves::Way;
 use lanes::{Joining, run};
 use light::swap_words;
-use sums::{add, balance, subtract};
+use sums::{add, balance, subtract, take};
 
 // Steps 1 and 2: the sums along the rows, and those of the rows down the columns.
 fn rows_and_columns(r: &mut [u32], c: &mut [u32], side: usize)
@@ -21,7 +21,7 @@ fn rows_and_columns(r: &mut [u32], c: &mut [u32], side: usize)
 {
     let last = side - 1;
     run(side, Way::Right, Joining::Add, 0, last, r);
-    c.copy_from_slice(&r[..]);
+    take(c, &r[..]);
     run(side, Way::Down, Joining::Add, 0, last, c);
 }
 
@@ -33,10 +33,10 @@ fn group_sums(c: &[u32], y: &mut [u32], z: &mut [u32], side: usize)
     ensures { GroupSums side c.now y.new z.new }
 {
     let last = side - 1;
-    y.copy_from_slice(c);
+    take(y, c);
     swap_words(side, y);
     run(side, Way::Right, Joining::Add, 0, last, y);
-    z.copy_from_slice(&y[..]);
+    take(z, &y[..]);
     run(side, Way::Down, Joining::Add, 0, last, z);
 }
 

@@ -9,7 +9,7 @@ module _ (op : ℕ → ℕ → ℕ) (l m : List ℕ) where
   pub stays : (length l ≡ length m → ⊥) → combined_words op l m ≡ l
   stays d = rw (ne_eqb (length l) (length m) d)
 
-  made : length l ≡ length m → combined_words op l m ≡ cellwise (λ i own. op own (get_or m i 0)) l
+  pub made : length l ≡ length m → combined_words op l m ≡ cellwise (λ i own. op own (get_or m i 0)) l
   made e = rw (eq-eqb (length l) (length m) e)
 
 -- what becomes of cell i

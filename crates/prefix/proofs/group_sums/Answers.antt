@@ -3,4 +3,5 @@ use Rattle.prefix.proofs.Composing.{group_sums}
 use Rattle.prefix.proofs.group_sums.Goals as goal
 
 pub returns : goal.returns
-returns c = group_sums _ c.copy_from_slice.ensures.after c.swap_words.ensures c.run.ensures c.copy_from_slice-2.ensures.after c.run-2.ensures
+returns c =
+    group_sums _ _ _ c.requires.y_len c.requires.z_len c.take.ensures c.swap_words.ensures c.run.ensures c.take-2.ensures c.run-2.ensures
