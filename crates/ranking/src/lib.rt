@@ -38,7 +38,9 @@ fn set_aims(marks: &[u8], sums: &[u32], aims: &mut [u16])
     }
 }
 
-// The ranks, by way of the prefix sums of the marks. The lane of sums is cleared, so it is not to be much too long.
+// The ranks, by way of the prefix sums of the marks. The lane of sums is cleared, so it is not to be much too long. Each room is a function of its
+// own: laid into one, a call at side 2 touches the pages of the room for 4,096 words.
+#[inline(never)]
 fn write_within<const N: usize>(side: usize, marks: &[u8], aims: &mut [u16])
     requires good_marks { GoodMarks side marks.now }
     requires aims_len { length aims.old ≡ length marks.now }
