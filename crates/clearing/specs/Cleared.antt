@@ -17,5 +17,9 @@ kept_at = kept_or_at 0
 abbrev pub kept : List ℕ → List ℕ → List ℕ
 kept = kept_or 0
 
+-- every cell of a lane is empty
+abbrev pub emptied : {A : Type 0} → A → List A → List A
+emptied empty lane = entries (λ i. empty) 0 (length lane)
+
 abbrev pub zeros : List ℕ → List ℕ
-zeros lane = entries (λ i. 0) 0 (length lane)
+zeros = emptied 0

@@ -3,7 +3,7 @@
 
 ghost use Rattle.std.specs.Prelude.{◌≡◌};
 ghost use Rattle.array.specs.Lent.{SameSlots};
-ghost use Rattle.clearing.specs.Cleared.{kept, kept_or, zeros};
+ghost use Rattle.clearing.specs.Cleared.{emptied, kept, kept_or, zeros};
 
 use array::lent::LentSlots;
 
@@ -32,6 +32,15 @@ pub fn keep_marked(slots: &mut LentSlots)
     keep(marks, slots.aims, 0);
 }
 
+// Every cell of a lane becomes empty.
+pub fn clear<T: Copy>(lane: &mut [T], empty: T)
+    ensures { lane.new ≡ emptied empty lane.old }
+{
+    for own in lane.iter_mut() {
+        *own = empty;
+    }
+}
+
 // Every cell of a slot's lanes holds 0.
 pub fn empty(slots: &mut LentSlots)
     ensures same { SameSlots slots.old slots.new }
@@ -39,7 +48,7 @@ pub fn empty(slots: &mut LentSlots)
     ensures marks { slots.new.marks.now ≡ zeros slots.old.marks.now }
     ensures aims { slots.new.aims.now ≡ zeros slots.old.aims.now }
 {
-    slots.words.fill(0);
-    slots.marks.fill(0);
-    slots.aims.fill(0);
+    clear(slots.words, 0);
+    clear(slots.marks, 0);
+    clear(slots.aims, 0);
 }
