@@ -1,10 +1,10 @@
 -- Where a byte stands, and the number that a field writes, one byte at a time.
-use Rattle.std.proofs.Common.{◌≡◌, ℕ, suc, ◌+◌, ◌-◌, ◌*◌, ◌≤◌, ◌<◌, Bool, true, false, cond, ◌&&◌, List, [], ◌∷◌, Option, Some, None, length, get_or, take, drop, option_and_then, unwrap_or, position, ◌==◌, nat_lt, not, eqb, ltb, refl, sym, ap, ◌∙◌, leb, arith, add-one, length-drop, drop-cons, drop_of_length-le}
+use Rattle.std.proofs.Common.{◌≡◌, ℕ, suc, ◌+◌, ◌-◌, ◌*◌, ◌≤◌, ◌<◌, Bool, true, false, cond, ◌&&◌, List, [], ◌∷◌, Option, Some, None, length, get_or, take, drop, option_and_then, unwrap_or, position, ◌==◌, nat_lt, not, eqb, ltb, refl, sym, ◌∙◌, leb, arith, add-one, length-drop, drop-cons, drop_of_length-le}
 use lib.Seq.{length-take-le, take_all}
 use Rattle.std.specs.List.{position_or_len}
 use Rattle.std.proofs.lemmas.List.Sums.{prefix_len-le-length}
 use borrow.Author.Tests.{eq-eqb, lt-ltb, eqb-true, ltb-true, ltb-false, le-leb, lt-leb, leb-true, leb-false}
-use Rattle.texts.specs.Lines.{bytes_before, Parted}
+use Rattle.texts.specs.Lines.{bytes_before}
 use Rattle.texts.specs.Numbers.{with_digit, digits_from, number_of}
 
 -- a number that is too large stays so
@@ -91,16 +91,6 @@ before_found b s = go (nat_lt (position_or_len (λ x. x == b) s) (length s)) ref
 -- `&s[k..]` as the code has it
 pub rest : (k : ℕ) (s : List ℕ) → take (length s - k) (drop k s) ≡ drop k s
 rest k s = take_all (length s - k) (drop k s) (simp length-drop (omega arith))
-
-pub position_none : (b : ℕ) (s : List ℕ) → position (λ x. x == b) s ≡ None → bytes_before b s ≡ length s
-position_none b s e = sym (before_found b s) ∙ ap (λ (o : Option ℕ). unwrap_or o (length s)) e
-
--- a text parted where the library finds the byte
-pub parted_at : (b : ℕ) (s : List ℕ) {at : ℕ} → position (λ x. x == b) s ≡ Some at → at < length s
-    → Parted b s (take at s) (take (length s - (at + 1)) (drop (at + 1) s))
-parted_at b s {at} e h =
-    let here : bytes_before b s ≡ at = sym (before_found b s) ∙ ap (λ (o : Option ℕ). unwrap_or o (length s)) e in
-    record { found = omega arith; front_is = rw here refl; back_is = rw here (rest (at + 1) s ∙ ap (λ (k : ℕ). drop k s) (add-one at)) }
 
 -- parts of a slice
 pub part_length : (n : ℕ) (l : List ℕ) → n ≤ length l → n ≡ length (take n l)

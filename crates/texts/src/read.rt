@@ -22,7 +22,10 @@ pub fn bytes_before(s: &[u8], b: u8) -> usize
 pub fn split_once(s: &[u8], b: u8) -> Option<(&[u8], &[u8])>
     ensures { MatchOption result (bytes_before b s.now ≡ length s.now) (λ p. Parted b s.now p.0.now p.1.now) }
 {
-    let at = s.iter().position(|&x| x == b)?;
+    let at = bytes_before(s, b);
+    if at == s.len() {
+        return None;
+    }
     Some((&s[..at], &s[at + 1..]))
 }
 
