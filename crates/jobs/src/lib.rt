@@ -99,9 +99,10 @@ pub fn run(text: &[u8], out: &mut [u8; 196608]) -> usize
 {
     let mut words = [0; 4096];
     let mut marks = [0; 4096];
-    let job = match read(text, &mut words, &mut marks) {
-        Ok(job) => job,
-        Err(refused) => return refusal(out, refused.number(), refused.place()),
+    let outcome = read(text, &mut words, &mut marks);
+    let Ok(job) = outcome else {
+        let refused = outcome.unwrap_err();
+        return refusal(out, refused.number(), refused.place());
     };
     let cells = job.side.pow(4);
     solve(out, job, &mut words[..cells], &mut marks[..cells])

@@ -5,8 +5,8 @@ use Rattle.jobtext.proofs.Boards.{ready_cells, words_room, marks_room, words-par
 use Rattle.jobs.proofs.Answered.{ready_lanes, ready_filled, refused_output}
 use Rattle.jobs.proofs.run.Goals as goal
 
-pub returns-in-Err : goal.returns-in-Err
-returns-in-Err c = search refused_output
+pub returns-in_default : goal.returns-in_default
+returns-in_default c = search refused_output
 
 pub pow-cells-requires : goal.pow-cells-requires
 pow-cells-requires c =
